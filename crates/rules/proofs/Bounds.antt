@@ -11,10 +11,10 @@ use borrow.Author.Tests.{eqb-true, eqb-false, eq-eqb, ne-eqb, leb-false}
 use Rattle.rules.specs.Rules.{Side, bid, ask, opposite, asGood, Kind, standing, Order, Book, Taker, Outcome, also, keep, own, book, atRest, given, keeping, matching, place, hide, joining, hiding, stays, only}
 use Rattle.rules.specs.Rules.{Desk, Call, order, cancel, tracking, Size, unless, firstOf, outcome, makers, checks, refusal, full, crowded, carried, verdict, perform, after, fresh, end}
 use Rattle.rules.specs.Rules.{Level, joined, levels, occupied}
-use Rattle.rules.specs.Whole.{All, empty, _&_, Sorted, sorted[], sorted∷, Whole, one, seen, Once, Fits}
+use Rattle.rules.specs.Whole.{All, empty, _&_, Sorted, sorted[], sorted∷, Whole, one, seen, Once, Fits, WholeBook}
 use Rattle.rules.proofs.Basics.{not-both, good-refl, good-antisym, good-worse, all-map, all-head, all-tail, both-sides, own-book, other-book}
 use Rattle.rules.proofs.Match.{hide-sorted}
-use Rattle.rules.proofs.Reached.{whole-end}
+use Rattle.rules.proofs.Reached.{whole-after, whole-end}
 use mathlib.Core.Logic.{_⊎_, inl, inr}
 
 one-le : (b : Bool) → one b ≤ 1
@@ -412,3 +412,11 @@ module _ {A : Type 0} where
   unfolding end levels
   fits-end z [] = fits-book z bid [] [] (omega arith) (omega arith) (omega arith)
   fits-end z (c ∷ h) = fits-after z (end z h) c (whole-end z h) (fits-end z h)
+
+  -- every call keeps a whole book, and so does every history
+  pub whole-book-after : (z : Size) (d : Desk A) (c : Call A) → WholeBook z (d .book) → WholeBook z ((after z d c) .book)
+  whole-book-after z d c w =
+      record { orderly = whole-after z d c (w .orderly); once = once-after z d c (w .once); fits = fits-after z d c (w .orderly) (w .fits) }
+
+  pub whole-book-end : (z : Size) (h : List (Call A)) → WholeBook z ((end z h) .book)
+  whole-book-end z h = record { orderly = whole-end z h; once = once-end z h; fits = fits-end z h }

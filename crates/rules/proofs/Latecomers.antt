@@ -9,11 +9,11 @@ use mathlib.Core.Option.{Option, none, some}
 use Rattle.rules.specs.Rules.{Side, bid, ask, opposite, asGood, Kind, market, limit, within, standing, Order, Book, Taker, Fill, Outcome, own, book, withLeft, atRest, keep, matching, place, hide, joining, hiding, stays, only}
 use Rattle.rules.specs.Rules.{Stats, Desk, Call, order, cancel, tracking, Answer, done, Result, Size, traded, statsAfter, total, outcome, makers, refusal, event, carried, verdict, perform, after, fresh, end}
 use Rattle.rules.specs.Whole.{All, empty, _&_, Sorted, Positive, Whole}
-use Rattle.rules.specs.Late.{marked, plain, Names, refuses, fillsOf, among, rests, upToX, Alike, Histories, start, shared, entersX, extra, Untouched, Demand3}
+use Rattle.rules.specs.Late.{marked, plain, Names, refuses, fillsOf, among, rests, upToX, turnOfX, Alike, Histories, start, shared, entersX, extra, Untouched, Unmoved, Demand3}
 use Rattle.rules.proofs.Basics.{not-both, limit-worse, both-sides, own-book, other-book, all-map, all-mem, all-keep, keep-all, keep-keep, all-map-list}
 use Rattle.rules.proofs.Match.{outcome-idle, outcome-all, place-all, hide-sorted}
 use Rattle.rules.proofs.Reached.{whole-end}
-use Rattle.rules.proofs.Queue.{Unmarked, among-none, keep-passes, known, Known, Front, front-among, front-hide, front-place, front-enter, front-extra, front-keep, front-known, known-place, known-extra, known-hide, hide-known, Met, stay, leave, outcome-met}
+use Rattle.rules.proofs.Queue.{Unmarked, among-none, keep-passes, known, Known, Front, front-among, front-hide, front-place, front-enter, front-extra, front-keep, front-known, front-turn, known-place, known-extra, known-hide, hide-known, Met, stay, leave, outcome-met}
 
 -- ---- a fact that no call takes away
 
@@ -131,6 +131,16 @@ module _ (N : ℕ → Bool) where
 
   clear-rests : (d : Desk Bool) → ((s : Side) → All Unmarked (own s (d .book))) → rests d ≡ false
   clear-rests d a = rw (among-none (a bid), among-none (a ask))
+
+  pair-turn : {x y u v : List (Order Bool)} → Pair x y u v → turnOfX x ≡ turnOfX u
+  pair-turn p = rw (p .mine) (front-turn N (p .front))
+
+  state-unmoved : (d e : Desk Bool) → State d e → rests d ≡ true → Unmoved d e
+  state-unmoved d e (gone a b) r = absurd (not-both (rests d) r (clear-rests d a))
+  state-unmoved d e (near s (onBid p)) r =
+      record { statistics = s; turn = both-sides (λ t. turnOfX (own t (d .book)) ≡ turnOfX (own t (e .book))) bid (pair-turn p) (ap turnOfX (p .other)) }
+  state-unmoved d e (near s (onAsk p)) r =
+      record { statistics = s; turn = both-sides (λ t. turnOfX (own t (d .book)) ≡ turnOfX (own t (e .book))) ask (pair-turn p) (ap turnOfX (p .other)) }
 
   -- ---- what a shared call does
 
@@ -422,6 +432,7 @@ module _ (N : ℕ → Bool) where
         record {
           before = λ i. (inv i) .same;
           together = λ i. together i;
+          unmoved = λ {h} {k} i r. state-unmoved (end z h) (end z k) (inv i) r;
           untouched = λ {h} {k} i r c n l.
               let s = step z (end z h) (end z k) c n (whole-end z k) l (inv i) in
               record { answer = λ y f. s .answer r y f; leaves = state-rests _ _ (s .state); fills = s .front r };

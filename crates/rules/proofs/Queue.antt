@@ -10,7 +10,7 @@ use lib.Dec.{eqb}
 use borrow.Author.Tests.{ne-eqb}
 use Rattle.rules.specs.Rules.{Side, opposite, asGood, within, Order, Taker, Fill, Outcome, also, keep, given, filling, keeping, meet, matching, place, hide, stays, outcome}
 use Rattle.rules.specs.Whole.{All, empty, _&_, Sorted, sorted[], sorted∷, Positive}
-use Rattle.rules.specs.Late.{among, upToX}
+use Rattle.rules.specs.Late.{among, upTo, upToX, turnOfX}
 use Rattle.rules.proofs.Basics.{not-both, good-trans, good-worse, within-worse, all-map, all-head, all-tail, all-mem, all-keep, keep-yes, keep-no, keep-map, keep-all, all-map-list}
 use Rattle.rules.proofs.Match.{given-less, given-le, idle-done, idle-beyond, left-all, place-all, place-front}
 
@@ -32,12 +32,12 @@ keep-passes f (x ∷ l) = go (f x) refl (keep-passes f l)
     go false e r = r
 
 upTo-filling : (t : Taker Bool) (m : Order Bool) (g : ℕ) (k l : List (Fill Bool)) → upToX k ≡ upToX l → upToX (filling t m g k) ≡ upToX (filling t m g l)
-unfolding upToX
+unfolding upTo
 upTo-filling t m zero k l e = e
 upTo-filling t m (suc g) k l e = rw e
 
 upTo-x : (t : Taker Bool) (m : Order Bool) (g : ℕ) (k l : List (Fill Bool)) → m .tag ≡ true → 1 ≤ g → upToX (filling t m g k) ≡ upToX (filling t m g l)
-unfolding upToX
+unfolding upTo
 upTo-x t m zero k l e h = absurd (let f : ⊥ = omega arith in f)
 upTo-x t m (suc g) k l e h = rw e
 
@@ -128,6 +128,12 @@ module _ (N : ℕ → Bool) where
   pub front-known : {l : List (Order Bool)} → Front l → Front (keep known l)
   front-known (here {x = m} {l = l} x n a) = rw (keep-yes known m l n) (here x n (all-keep known a))
   front-known (ahead {m = m} {l = l} u n f) = rw (keep-yes known m l n) (ahead u n (front-known f))
+
+  -- the same orders stand up to X
+  pub front-turn : {l : List (Order Bool)} → Front l → turnOfX (keep known l) ≡ turnOfX l
+  unfolding upTo keep
+  front-turn (here x n a) = rw (n, x)
+  front-turn (ahead u n f) = rw (n, u, front-turn f)
 
   pub known-place : {l : List (Order Bool)} (s : Side) (o : Order Bool) → Known o → Sorted s l → keep known (place s o l) ≡ place s o (keep known l)
   unfolding place keep

@@ -11,7 +11,7 @@ use Rattle.rules.specs.Rules.{Stats, traded, some?, Desk, Call, order, c
 use Rattle.rules.specs.Retag.{reOrder, reTaker, reFill, reOutcome, reBook, reDesk, reCall, reAnswer, reResult}
 
 module _ {A B : Type 0} (f : A → B) where
-  own-re : (s : Side) (b : Book A) → own s (reBook f b) ≡ map (reOrder f) (own s b)
+  pub own-re : (s : Side) (b : Book A) → own s (reBook f b) ≡ map (reOrder f) (own s b)
   own-re bid b = refl
   own-re ask b = refl
 

@@ -4,8 +4,10 @@
 use Prim.Native.Nat.{ℕ}
 use mathlib.Core.Path.{_≡_}
 use mathlib.Core.Bool.{Bool, true, false, _||_, cond}
-use mathlib.Core.List.{List, [], _∷_, List·Memᴰ}
-use Rattle.rules.specs.Rules.{asGood, Kind, limit, Order, Taker, Fill, Desk, Call, order, cancel, tracking, Answer, done, switched, Size, own, perform, after, end}
+use mathlib.Core.List.{List, [], _∷_, map, List·Memᴰ}
+use lib.ListN.{length, take}
+use Rattle.rules.specs.Rules.{Side, asGood, Kind, limit, Order, Taker, Fill, Desk, Call, order, cancel, tracking, Answer, done, switched, Size, own, perform, after, end}
+use Rattle.rules.specs.Retag.{reCall}
 
 -- a call whose order, if it is one, carries the mark b
 abbrev pub marked : Bool → Taker (Unit {0}) → Taker Bool
@@ -41,10 +43,17 @@ among (m ∷ l) = m .tag || among l
 abbrev pub rests : Desk Bool → Bool
 rests d = among (d .book .bids) || among (d .book .asks)
 
--- the fills up to and including X's
-unfoldable pub upToX : List (Fill Bool) → List (Fill Bool)
-upToX [] = []
-upToX (f ∷ l) = cond (f .tag) (f ∷ []) (f ∷ upToX l)
+-- those up to and including the first that passes a test; all, if none does
+unfoldable pub upTo : {X : Type 0} → (X → Bool) → List X → List X
+upTo g [] = []
+upTo g (x ∷ l) = cond (g x) (x ∷ []) (x ∷ upTo g l)
+
+-- the fills up to and including X's, and the orders up to and including X
+abbrev pub upToX : List (Fill Bool) → List (Fill Bool)
+upToX l = upTo (λ f. f .tag) l
+
+abbrev pub turnOfX : List (Order Bool) → List (Order Bool)
+turnOfX l = upTo (λ m. m .tag) l
 
 -- what the desk answers to the call c after the history h
 abbrev pub answerTo : Size → List (Call Bool) → Call Bool → Answer Bool
@@ -53,6 +62,11 @@ answerTo z h c = (perform z (end z h) c) .answer
 -- the call is refused after both histories or after neither
 abbrev pub Alike : Size → List (Call Bool) → List (Call Bool) → Call Bool → Type 0
 Alike z h k c = refuses (answerTo z h c) ≡ refuses (answerTo z k c)
+
+-- What is shared while X rests: the statistics, all orders up to X on its side, X itself with what is left of it, and all of the other side.
+pub record Unmoved (d e : Desk Bool) : Type 0 where
+  pub statistics : d .stats ≡ e .stats
+  pub turn : (s : Side) → turnOfX (own s (d .book)) ≡ turnOfX (own s (e .book))
 
 module _ (z : Size) (N : ℕ → Bool) where
   -- Two histories, alike but for extra orders in the second; `true` once X has been entered.
@@ -70,8 +84,39 @@ module _ (z : Size) (N : ℕ → Bool) where
     pub leaves : rests (end z (c ∷ h)) ≡ rests (end z (c ∷ k))
     pub fills : upToX (fillsOf (answerTo z h c)) ≡ upToX (fillsOf (answerTo z k c))
 
-  -- Demand 3: before X comes the histories are the same; at all times X rests in both or in neither; and while it rests no shared call is touched.
+  -- Demand 3: before X comes the histories are the same; at all times X rests in both or in neither; and while it rests nothing shared has moved and
+  -- no shared call is touched.
   pub record Demand3 : Type 0 where
     pub before : {h k : List (Call Bool)} → Histories false h k → h ≡ k
     pub together : {b : Bool} {h k : List (Call Bool)} → Histories b h k → rests (end z h) ≡ rests (end z k)
+    pub unmoved : {h k : List (Call Bool)} → Histories true h k → rests (end z h) ≡ true → Unmoved (end z h) (end z k)
     pub untouched : {h k : List (Call Bool)} → Histories true h k → rests (end z h) ≡ true → (c : Call (Unit {0})) → Names N c → Alike z h k (plain c) → Untouched h k (plain c)
+
+-- ---- the same on the desk without marks
+
+-- The marks are forgotten: X is known only by how many stand up to it.
+abbrev pub unmark : List (Call Bool) → List (Call (Unit {0}))
+unmark h = map (reCall (λ (b : Bool). tt)) h
+
+-- how many orders of side s stand up to X, and how many fills of an answer go up to X's
+abbrev pub turn : Side → Desk Bool → ℕ
+turn s d = length (turnOfX (own s (d .book)))
+
+abbrev pub share : Answer Bool → ℕ
+share a = length (upToX (fillsOf a))
+
+-- what the desk answers to the call c after the history h, marks forgotten
+abbrev pub plainly : Size → List (Call Bool) → Call (Unit {0}) → Answer (Unit {0})
+plainly z h c = (perform z (end z (unmark h)) c) .answer
+
+-- What the shared call c, made while X rests, finds in both on the desk without marks: the same answer if X stays and c is accepted; X stays or
+-- leaves alike, and if it stays the same orders stand up to it and the statistics are the same; the fills up to X's are as many and the same.
+pub record Alone (z : Size) (h k : List (Call Bool)) (c : Call (Unit {0})) : Type 0 where
+  pub answer : rests (end z (plain c ∷ h)) ≡ true → refuses (plainly z h c) ≡ false → plainly z h c ≡ plainly z k c
+  pub leaves : rests (end z (plain c ∷ h)) ≡ rests (end z (plain c ∷ k))
+  pub turns : rests (end z (plain c ∷ h)) ≡ true → (s : Side)
+      → (turn s (end z (plain c ∷ h)) ≡ turn s (end z (plain c ∷ k)))
+      × (take (turn s (end z (plain c ∷ h))) (own s ((end z (c ∷ unmark h)) .book)) ≡ take (turn s (end z (plain c ∷ h))) (own s ((end z (c ∷ unmark k)) .book)))
+  pub statistics : rests (end z (plain c ∷ h)) ≡ true → (end z (c ∷ unmark h)) .stats ≡ (end z (c ∷ unmark k)) .stats
+  pub shares : share (answerTo z h (plain c)) ≡ share (answerTo z k (plain c))
+  pub fills : take (share (answerTo z h (plain c))) (fillsOf (plainly z h c)) ≡ take (share (answerTo z h (plain c))) (fillsOf (plainly z k c))

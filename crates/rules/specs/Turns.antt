@@ -6,7 +6,7 @@ use mathlib.Core.Bool.{Bool, true, false}
 use mathlib.Core.List.{List, [], _∷_, map}
 use mathlib.Core.Option.{none, some}
 use Rattle.rules.specs.Whole.{Whole}
-use Rattle.rules.specs.Rules.{within, Order, Taker, Fill, fillFrom, withLeft, atRest, place, hide, own, standing, total, Desk, makers}
+use Rattle.rules.specs.Rules.{within, Order, Taker, Fill, fillFrom, withLeft, atRest, place, hide, own, standing, total, Desk, Answer, done, Result, makers, event, statsAfter}
 
 module _ {A : Type 0} where
   -- t, wanting w, meets these makers: its fills, the makers left, and what it still wants
@@ -24,15 +24,19 @@ module _ {A : Type 0} where
   supply [] = 0
   supply (m ∷ l) = m .quantity + supply l
 
-  -- Demand 2: what an accepted order t makes of the desk d, with the fills f: makers in their turn, as far as limit and quantity reach; they lose
-  -- what t gains; the rest stands behind all others at its price, or lapses; and the best bid stays below the best ask.
-  pub record Demand2 (d : Desk A) (t : Taker A) (e : Desk A) (f : List (Fill A)) : Type 0 where
+  -- Demand 2: what an accepted order t makes of the desk d. It takes the makers in their turn, as far as limit and quantity reach, and says so; they lose
+  -- what t gains; the rest stands behind all others at its price and is the one found under its id, or lapses; the statistics get the fills; nothing else
+  -- changes, and the best bid stays below the best ask.
+  pub record Demand2 (d : Desk A) (t : Taker A) (r : Result A) : Type 0 where
+    pub fills : List (Fill A)
     pub left : List (Order A)
     pub rest : ℕ
-    pub turns : Taken t (t .quantity) (makers t d) f left rest
-    pub gains : t .quantity ≡ total f + rest
-    pub losses : supply (makers t d) ≡ total f + supply left
+    pub turns : Taken t (t .quantity) (makers t d) fills left rest
+    pub says : r .answer ≡ done (event (t .kind) (t .id) fills rest) fills
+    pub gains : t .quantity ≡ total fills + rest
+    pub losses : supply (makers t d) ≡ total fills + supply left
     pub stands : (p : ℕ) → standing (t .kind) rest ≡ some p
-        → (own (t .side) (e .book) ≡ place (t .side) (atRest t p rest) (map (hide (t .id)) (own (t .side) (d .book)))) × (makers t e ≡ map (hide (t .id)) left)
-    pub lapses : standing (t .kind) rest ≡ none → (own (t .side) (e .book) ≡ own (t .side) (d .book)) × (makers t e ≡ left)
-    pub whole : Whole (e .book)
+        → (own (t .side) (r .desk .book) ≡ place (t .side) (atRest t p rest) (map (hide (t .id)) (own (t .side) (d .book)))) × (makers t (r .desk) ≡ map (hide (t .id)) left)
+    pub lapses : standing (t .kind) rest ≡ none → (own (t .side) (r .desk .book) ≡ own (t .side) (d .book)) × (makers t (r .desk) ≡ left)
+    pub statistics : r .desk .stats ≡ statsAfter fills (d .stats)
+    pub whole : Whole (r .desk .book)

@@ -1,4 +1,5 @@
--- What holds of every book that a history reaches: best price first on each side, every quantity at least 1, and no bid at or above an ask.
+-- A whole book of the rules, as every history leaves it: best price first on each side, every quantity at least 1, no bid at or above an ask,
+-- at most one found order an id, and no more orders and prices than its size allows.
 -- Assumes nothing.
 use Prim.Native.Nat.{ℕ, _+_, _≤_}
 use mathlib.Core.Path.{_≡_}
@@ -47,3 +48,8 @@ module _ {A : Type 0} where
   pub record Fits (z : Size) (b : Book A) : Type 0 where
     pub orders : length (b .bids) + length (b .asks) ≤ z .orders
     pub prices : (s : Side) → length (levels (own s b)) ≤ z .prices
+
+  pub record WholeBook (z : Size) (b : Book A) : Type 0 where
+    pub orderly : Whole b
+    pub once : Once b
+    pub fits : Fits z b
