@@ -1,0 +1,5 @@
+pub mod Times
+pub mod Ring
+pub mod Links
+pub mod Free
+pub mod Once

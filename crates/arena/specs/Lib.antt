@@ -1,0 +1,4 @@
+pub mod Times
+pub mod Ring
+pub mod Links
+pub mod Free

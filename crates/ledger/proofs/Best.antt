@@ -1,0 +1,61 @@
+-- The best order of a side: the first of its best level's queue. Assumes nothing.
+use Prim.Native.Nat.{suc, zero, ℕ, _*_, _+_, _-_, _<_, _≤_}
+use mathlib.Core.List.{List, [], _++_, _∷_}
+use mathlib.Core.Path.{ap, sym, _≡_}
+use native.Mathlib.Omega.{arith}
+use lib.ListN.{getD, length}
+use Rattle.rules.specs.Rules.{ask, bid}
+use Rattle.arena.specs.Links.{link}
+use Rattle.arena.specs.Ring.{Run}
+use Rattle.arena.specs.Times.{times}
+use Rattle.arena.proofs.Times.{one-self}
+use Rattle.side.specs.Levels.{Lvl, downs, nth, ups}
+use Rattle.side.specs.Orders.{codes}
+use Rattle.side.specs.Read.{levelsIn}
+use Rattle.ledger.specs.Desk.{Busy, Desk}
+
+-- no level of a side is empty
+pub busy-at : (ws : List Lvl) (i : ℕ) → Busy ws → i < length ws → 1 ≤ length (nth ws i .queue)
+busy-at [] i b h = absurd (let z : ⊥ = omega arith in z)
+busy-at (v ∷ ws) zero b h = b .0
+busy-at (v ∷ ws) (suc i) b h = busy-at ws i (b .1) (omega arith)
+
+pub some-of : (l : List ℕ) → 1 ≤ length l → (x : ℕ) × (1 ≤ times x l)
+some-of [] h = absurd (let z : ⊥ = omega arith in z)
+some-of (x ∷ l) h = (x, omega (arith, one-self x))
+
+first-of : (rs q : List ℕ) (h t : ℕ) → Run (link rs 3 h) (link rs 4 t) 0 q 0 → 1 ≤ length q → (l : List ℕ) × (q ≡ h ∷ l)
+first-of rs [] h t r o = absurd (let z : ⊥ = omega arith in z)
+first-of rs (x ∷ q) h t r o = (q, ap (λ (y : ℕ). y ∷ q) (sym (r .0)))
+
+downs-front : (ws : List Lvl) (k x : ℕ) (q : List ℕ) → length ws ≡ suc k → nth ws k .queue ≡ x ∷ q → (l : List ℕ) × (downs ws ≡ x ∷ l)
+downs-front [] k x q h e = absurd (let z : ⊥ = omega arith in z)
+downs-front (v ∷ []) zero x q h e = (q, e)
+downs-front (v ∷ []) (suc k) x q h e = absurd (let z : ⊥ = omega arith in z)
+downs-front (v ∷ u ∷ ws) zero x q h e = absurd (let z : ⊥ = omega arith in z)
+downs-front (v ∷ u ∷ ws) (suc k) x q h e = let t = downs-front (u ∷ ws) k x q (omega arith) e in (t .0 ++ v .queue, ap (λ (l : List ℕ). l ++ v .queue) (t .1))
+
+ups-front : (ws : List Lvl) (x : ℕ) (q : List ℕ) → 1 ≤ length ws → nth ws 0 .queue ≡ x ∷ q → (l : List ℕ) × (ups ws ≡ x ∷ l)
+ups-front [] x q h e = absurd (let z : ⊥ = omega arith in z)
+ups-front (v ∷ ws) x q h e = (q ++ ups ws, ap (λ (l : List ℕ). l ++ ups ws) e)
+
+module _ {rs bd ak se : List ℕ} {r f nb na : ℕ} (w : Desk rs bd ak se r f nb na) where
+  abbrev bw : List Lvl
+  bw = levelsIn rs bd nb
+
+  abbrev aw : List Lvl
+  aw = levelsIn rs ak na
+
+  pub front-bid : 1 ≤ nb → (l : List ℕ) × (codes bid bw ≡ getD bd ((nb - 1) * 3 + 1) 0 ∷ l)
+  front-bid h =
+      let s = w .stored .mine in
+      let k : nb - 1 < length bw = omega (arith, s .count) in
+      let o = first-of rs (nth bw (nb - 1) .queue) _ _ (s .level (nb - 1) (omega arith) .ring) (busy-at bw (nb - 1) (w .busy) k) in
+      downs-front bw (nb - 1) _ (o .0) (omega (arith, s .count)) (o .1)
+
+  pub front-ask : 1 ≤ na → (l : List ℕ) × (codes ask aw ≡ getD ak 1 0 ∷ l)
+  front-ask h =
+      let s = w .stored .theirs in
+      let k : 0 < length aw = omega (arith, s .count) in
+      let o = first-of rs (nth aw 0 .queue) _ _ (s .level 0 (omega arith) .ring) (busy-at aw 0 (w .busy-two) k) in
+      ups-front aw _ (o .0) (omega (arith, s .count)) (o .1)

@@ -1,0 +1,10 @@
+pub mod Lists
+pub mod Frame
+pub mod Joining
+pub mod Quitting
+pub mod Desk
+pub mod Best
+pub mod Apart
+pub mod Cancelling
+pub mod Lessening
+pub mod Beginning

@@ -1,0 +1,34 @@
+// The records of a book: rows of five numbers in lent storage, read and written here and nowhere else.
+// A record is named by its code, its row + 1; code 0 is none.
+ghost use mathlib.Core.Path.{_≡_};
+ghost use Prim.Native.Nat.{_<_};
+ghost use Rattle.records.specs.Rows.{Row, field, put};
+
+// The columns of a record, and how many there are.
+pub const ID: usize = 0;
+
+pub const QUANTITY: usize = 1;
+
+pub const PRICE: usize = 2;
+
+pub const NEXT: usize = 3;
+
+pub const PREV: usize = 4;
+
+pub const WIDTH: usize = 5;
+
+// The number in column `f` of the record of code `c`.
+pub fn load(records: &[u64], f: usize, c: u64) -> u64
+    requires { ⌜ (f < 5) × Row (now records) c ⌝ }
+    ensures { λ r. ⌜ r ≡ field (now (records .entry)) f c ⌝ }
+{
+    records[(c as usize - 1) * WIDTH + f]
+}
+
+// `v` written there.
+pub fn store(records: &mut [u64], f: usize, c: u64, v: u64)
+    requires { ⌜ (f < 5) × Row (now records) c ⌝ }
+    ensures { λ _. ⌜ now (records .exit) ≡ put (now (records .entry)) f c v ⌝ }
+{
+    records[(c as usize - 1) * WIDTH + f] = v;
+}

@@ -1,0 +1,11 @@
+pub mod Distance
+pub mod Walks
+pub mod Change
+pub mod Places
+pub mod Entries
+pub mod Entering
+pub mod Pulling
+pub mod Forgetting
+pub mod Frame
+pub mod Telling
+pub mod Example

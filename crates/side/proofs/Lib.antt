@@ -1,0 +1,11 @@
+pub mod Levels
+pub mod Unlinked
+pub mod Appended
+pub mod Shift
+pub mod Ladder
+pub mod Stored
+pub mod Own
+pub mod Leaving
+pub mod Resting
+pub mod Lessening
+pub mod Orders
