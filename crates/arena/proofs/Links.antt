@@ -30,13 +30,6 @@ tie-off rs lv f at zero v (suc x) h n = refl
 tie-off rs lv f at (suc p) v zero h n = refl
 tie-off rs lv f at (suc p) v (suc x) h n = field-record rs f f (suc p) (suc x) v h h (omega arith) (omega arith) n
 
--- the nodes of another level, none of which is the record p
-pub tie-away : (rs lv : List ℕ) (f at to p v x : ℕ) → f < 5 → to ≢ at → (1 ≤ p → x ≢ p) → link (linkRs rs f p v) f (getD (linkLv lv at p v) to 0) x ≡ link rs f (getD lv to 0) x
-tie-away rs lv f at to zero v zero h n m = getD-set-other lv at to v 0 n
-tie-away rs lv f at to zero v (suc x) h n m = refl
-tie-away rs lv f at to (suc p) v zero h n m = refl
-tie-away rs lv f at to (suc p) v (suc x) h n m = field-record rs f f (suc p) (suc x) v h h (omega arith) (omega arith) (m (omega arith))
-
 -- the other column
 pub tie-column : (rs lv : List ℕ) (f g at to p v x : ℕ) → f < 5 → g < 5 → g ≢ f → to ≢ at → link (linkRs rs f p v) g (getD (linkLv lv at p v) to 0) x ≡ link rs g (getD lv to 0) x
 tie-column rs lv f g at to zero v zero h i m n = getD-set-other lv at to v 0 n

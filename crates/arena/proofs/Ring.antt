@@ -64,10 +64,6 @@ after-in F B p (x ∷ l) q d i r = go (eqb d p) refl (λ j. after-in F B x l q d
     go true e k = let z : F d ≡ x = ap F (eqb-true d p e) ∙ r .0 in omega (arith, ap one (eq-eqb _ _ z))
     go false e k = omega (arith, k (omega (arith, ap one e)))
 
--- x in l and y not: different
-pub other-than : (x y : ℕ) (l : List ℕ) (m n : ℕ) → 1 ≤ one (eqb x m) + times x l + one (eqb x n) → one (eqb y m) + times y l + one (eqb y n) ≡ 0 → x ≢ y
-other-than x y l m n h z e = omega (arith, ap (λ (k : ℕ). one (eqb k m) + times k l + one (eqb k n)) e)
-
 -- ## d taken out: what came before it is tied to what followed it
 module _ (F B G C : ℕ → ℕ) (d : ℕ) (tieF : G (B d) ≡ F d) (tieB : C (F d) ≡ B d)
     (offF : (x : ℕ) → x ≢ B d → G x ≡ F x) (offB : (x : ℕ) → x ≢ F d → C x ≡ B x) where

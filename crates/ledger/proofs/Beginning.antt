@@ -1,18 +1,14 @@
 -- A fresh book: every record free, every place of the search free. Assumes nothing.
 use Prim.Native.Nat.{ℕ, _*_, _<_}
 use mathlib.Core.List.{List, []}
-use mathlib.Core.Option.{none}
 use mathlib.Core.Path.{refl, _≡_}
 use native.Mathlib.Omega.{arith}
 use lib.ListN.{getD-replicate, length, length-replicate, replicate}
 use Rattle.search.specs.Seek.{at}
 use Rattle.search.proofs.Frame.{fresh, fresh-lookup}
-use Rattle.search.proofs.Places.{room}
-use Rattle.search.proofs.Walks.{good, held}
 use Rattle.arena.specs.Free.{Freed, down}
 use Rattle.arena.proofs.Free.{down-code, down-length}
 use Rattle.side.specs.Levels.{Ladder}
-use Rattle.side.proofs.Stored.{rising}
 use Rattle.ledger.specs.Desk.{Leaves, Ledger}
 use Rattle.ledger.proofs.Desk.{leaves}
 

@@ -8,7 +8,7 @@ use native.Mathlib.Omega.{arith}
 use lib.Dec.{eqb, ltb}
 use lib.ListN.{getD, length}
 use borrow.Author.Tests.{eq-eqb, eqb-false, eqb-true, ltb-false, ltb-true}
-use Rattle.rules.specs.Rules.{Order, also, ask, bid, book, keep, only, stays}
+use Rattle.rules.specs.Rules.{Order, also, ask, bid, keep, only, stays}
 use Rattle.rules.specs.Whole.{one}
 use Rattle.records.specs.Rows.{Row, field}
 use Rattle.records.proofs.Cases.{lt?}

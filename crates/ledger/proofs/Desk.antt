@@ -5,10 +5,9 @@ use mathlib.Core.List.{List, [], _∷_}
 use mathlib.Core.Path.{ap, sym, _≡_}
 use native.Mathlib.Omega.{arith}
 use lib.ListN.{length}
-use Rattle.rules.specs.Rules.{Book, ask, bid, book}
+use Rattle.rules.specs.Rules.{Book, ask, bid}
 use Rattle.records.specs.Rows.{places}
-use Rattle.search.specs.Seek.{at, inside}
-use Rattle.search.proofs.Places.{room}
+use Rattle.search.specs.Seek.{at}
 use Rattle.arena.specs.Free.{Chain}
 use Rattle.arena.specs.Times.{times}
 use Rattle.arena.proofs.Times.{times-length}

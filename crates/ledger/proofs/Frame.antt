@@ -10,8 +10,7 @@ use Rattle.records.proofs.Rows.{row-length}
 use Rattle.search.specs.Seek.{Good, at, inside, lookup}
 use Rattle.search.proofs.Entries.{row-inside}
 use Rattle.search.proofs.Frame.{frame, frame-lookup}
-use Rattle.search.proofs.Places.{room}
-use Rattle.search.proofs.Walks.{good, held, own, sound}
+use Rattle.search.proofs.Walks.{own, sound}
 use Rattle.arena.specs.Times.{times}
 use Rattle.side.specs.Levels.{Lvl, ups}
 use Rattle.side.proofs.Stored.{row-of, swapped}
@@ -51,8 +50,5 @@ module _ {n : ℕ} {rs lv ov se : List ℕ} {s t f r : ℕ} {ws vs : List Lvl} {
     look-frame x = frame-lookup se rs js kept-entries (a .good) x (omega (arith, a .room))
 
 -- ## the rows of its codes
-pub row-some : {n : ℕ} {rs lv ov se : List ℕ} {s t f r : ℕ} {ws vs : List Lvl} {fr : List ℕ} → Ledger n rs lv ov se s t f r ws vs fr → (c : ℕ) → 1 ≤ times c (ups ws) + times c (ups vs) + times c fr → 1 ≤ c
-row-some a c i = row-of (a .stored) c i .some
-
 pub row-in : {n : ℕ} {rs lv ov se : List ℕ} {s t f r : ℕ} {ws vs : List Lvl} {fr : List ℕ} (a : Ledger n rs lv ov se s t f r ws vs fr) (js : List ℕ) (c : ℕ) → length js ≡ n * 5 → 1 ≤ times c (ups ws) + times c (ups vs) + times c fr → Row js c
 row-in a js c e i = row-length js (e ∙ sym (a .stored .rows)) (row-of (a .stored) c i)

@@ -9,11 +9,9 @@ use lib.Dec.{eqb}
 use lib.ListN.{length}
 use borrow.Author.Tests.{eq-eqb, eqb-false, eqb-true, ne-eqb}
 use Rattle.rules.specs.Rules.{Order, Side, hide, place}
-use Rattle.records.specs.Rows.{Row, field}
+use Rattle.records.specs.Rows.{field}
 use Rattle.search.specs.Seek.{Entered, entering, lookup}
 use Rattle.search.proofs.Entering.{entered, entering-length}
-use Rattle.search.proofs.Places.{room}
-use Rattle.search.proofs.Walks.{good, held, own}
 use Rattle.arena.specs.Times.{times}
 use Rattle.arena.proofs.Times.{one-self}
 use Rattle.side.specs.Doors.{Rests, resting}
@@ -24,7 +22,7 @@ use Rattle.side.proofs.Orders.{Tiers, codes-times, orders-hide, place-codes, si
 use Rattle.side.proofs.Stored.{at-most-one, row-of}
 use Rattle.ledger.specs.Desk.{Ledger, found}
 use Rattle.ledger.specs.Doors.{CanJoin, Joins, rested}
-use Rattle.ledger.proofs.Frame.{good-frame, look-frame, roomy, row-in, row-some}
+use Rattle.ledger.proofs.Frame.{good-frame, look-frame, roomy, row-in}
 use Rattle.ledger.proofs.Lists.{and-false, and-true, busy-resting, resting-times}
 
 -- ## c comes to rest on side sd
@@ -44,9 +42,6 @@ module _ {n : ℕ} {rs lv ov se : List ℕ} {s t c r : ℕ} {ws vs : List Lvl} {
 
   same : (g x : ℕ) → g < 3 → 1 ≤ times x (ups ws) + times x (ups vs) → field rs′ g x ≡ field rs g x
   same g x h i = d .fields g x h (some x i) (off x i)
-
-  row-c : Row rs c
-  row-c = row-of (a .stored) c (omega (arith, one-self c))
 
   enters : Entered se rs′ id c (entering se rs′ id c)
   enters =
@@ -115,9 +110,6 @@ module _ {n : ℕ} {rs lv ov se : List ℕ} {s t c r : ℕ} {ws vs : List Lvl} {
   rest-other sd = orders-hide rs rs′ (found se rs) (found (entering se rs′ id c) rs′) id (codes sd vs) (λ g x h i. same g x h (omega (arith, codes-times sd x vs))) (λ x i. found-then x (omega (arith, codes-times sd x vs)))
 
 module _ {rs lv se : List ℕ} {s c p : ℕ} (h : CanJoin rs lv se s c p) where
-  pub free-some : 1 ≤ c
-  free-some = row-some (h .all) c (omega (arith, one-self c))
-
   module _ {id q s′ f′ : ℕ} {rs′ lv′ : List ℕ} (d : Rests rs lv s c id q p rs′ lv′ s′ f′) where
     pub join-needs : 0 < length se
     join-needs = omega (arith, h .all .room)

@@ -9,8 +9,6 @@ use borrow.Author.Tests.{eqb-false, eqb-true}
 use Rattle.rules.specs.Rules.{ask, bid, withLeft}
 use Rattle.records.specs.Rows.{Row, field}
 use Rattle.search.specs.Seek.{lookup}
-use Rattle.search.proofs.Places.{room}
-use Rattle.search.proofs.Walks.{good, held}
 use Rattle.arena.specs.Times.{times}
 use Rattle.arena.proofs.Times.{one-self}
 use Rattle.side.specs.Doors.{Lessens}

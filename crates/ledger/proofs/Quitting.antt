@@ -13,8 +13,6 @@ use Rattle.records.specs.Rows.{Row, field}
 use Rattle.search.specs.Seek.{Forgotten, Pointing, forgetting, lookup}
 use Rattle.search.proofs.Entries.{pointing}
 use Rattle.search.proofs.Forgetting.{forgetting-length, forgotten}
-use Rattle.search.proofs.Places.{room}
-use Rattle.search.proofs.Walks.{good, held, own}
 use Rattle.arena.specs.Ring.{cut}
 use Rattle.arena.specs.Times.{times}
 use Rattle.arena.proofs.Ring.{cut-times}
@@ -27,7 +25,7 @@ use Rattle.side.proofs.Orders.{codes-times, orders-frame, without-codes}
 use Rattle.side.proofs.Stored.{at-most-one, row-of}
 use Rattle.ledger.specs.Desk.{Ledger, found}
 use Rattle.ledger.specs.Doors.{CanQuit, Quits}
-use Rattle.ledger.proofs.Frame.{good-frame, look-frame, roomy, row-some}
+use Rattle.ledger.proofs.Frame.{good-frame, look-frame, roomy}
 use Rattle.ledger.proofs.Lists.{busy-without, without-times}
 
 -- ## c leaves: first the search forgets it, then its record is given back
@@ -35,9 +33,6 @@ module _ {n : ℕ} {rs lv ov se : List ℕ} {s t f r : ℕ} {ws vs : List Lvl} {
     {c s′ f′ : ℕ} {rs′ lv′ se′ : List ℕ} (i : 1 ≤ times c (ups ws)) (o : Forgotten se rs c se′) (long : length se′ ≡ length se) (d : Discards rs lv s f c rs′ lv′ s′ f′) where
   left : Stored n rs′ lv′ ov s′ t f′ (r - 1) (without c ws) vs (c ∷ fr)
   left = d .stored (a .stored) i
-
-  row-d : Row rs c
-  row-d = row-of (a .stored) c (omega arith)
 
   one-c : times c (ups ws) ≤ 1
   one-c = omega (arith, at-most-one (a .stored) c)
@@ -100,9 +95,6 @@ module _ {n : ℕ} {rs lv ov se : List ℕ} {s t f r : ℕ} {ws vs : List Lvl} {
       off-c x j e = omega (arith, codes-times sd c vs, at-most-one (a .stored) c, ap (λ (m : ℕ). times m (codes sd vs)) e)
 
 module _ {rs lv se : List ℕ} {s f c : ℕ} (h : CanQuit rs lv se s f c) where
-  pub quit-some : 1 ≤ c
-  quit-some = row-some (h .all) c (omega (arith, h .inside))
-
   pub quit-needs : Pointing se rs × (0 < length se) × Row rs c
   quit-needs = (pointing (h .all .good), omega (arith, h .all .room), row-of (h .all .stored) c (omega (arith, h .inside)))
 

@@ -7,7 +7,6 @@ use mathlib.Core.Path.{_≡_}
 use lib.Dec.{eqb}
 use Rattle.rules.specs.Rules.{Book, Order, Side, ask, bid, hide, place, withLeft}
 use Rattle.records.specs.Rows.{field}
-use Rattle.search.specs.Seek.{inside}
 use Rattle.arena.specs.Links.{priceOf}
 use Rattle.arena.specs.Ring.{cut}
 use Rattle.arena.specs.Times.{times}

@@ -123,9 +123,6 @@ module _ {rs lv : List ℕ} {n : ℕ} {ws : List Lvl} (lw : List ℕ) (k p : ℕ
           let f₃ : nth (gap ws k p) i ≡ nth ws j = ap (nth (gap ws k p)) q ∙ open-above ws k p j kw g in
           rw (f₀, f₁, f₂, f₃) (s .level j (omega arith))
 
-      price : (i : ℕ) → ℕ
-      price i = nth (gap ws k p) i .price
-
       at-under : (i : ℕ) → i < k → nth (gap ws k p) i .price ≡ nth ws i .price
       at-under i q = ap (λ (w : Lvl). w .price) (open-below ws k p i kw q)
 
@@ -147,9 +144,6 @@ module _ {rs lv : List ℕ} {n : ℕ} {ws : List Lvl} (lw : List ℕ) (k p : ℕ
       rise i j a b (over l q f) (over m r g) = omega (arith, at-over i l q f, at-over j m r g, s .rising l m (omega arith) (omega arith))
 
 module _ {rs lv : List ℕ} {n : ℕ} {ws : List Lvl} (lw : List ℕ) (k : ℕ) (s : Ladder rs lv n ws) (kn : k < n) (o : Closed lv (k * 3) ((n - 1) * 3) lw) where
-  new-at : ℕ → ℕ
-  new-at i = i
-
   pub shut-side : Ladder rs lw (n - 1) (shut ws k)
   shut-side = record {
     count = omega (arith, shut-length ws k (omega (arith, s .count)), s .count);

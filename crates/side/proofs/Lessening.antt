@@ -1,7 +1,6 @@
 -- An order that has less left. Assumes nothing.
 use Prim.Native.Nat.{ℕ, _*_, _+_, _-_}
 use mathlib.Core.List.{List}
-use mathlib.Core.Option.{none}
 use mathlib.Core.Path.{ap, sym, _∙_}
 use native.Mathlib.Omega.{arith}
 use lib.ListN.{length-set}

@@ -134,7 +134,7 @@ module _ (rs : List ℕ) (fnd : ℕ → Bool) (s : Side) (c : ℕ) where
       go true e = ap (λ (l : List (Order (Unit {0}))). orderAt rs fnd x ∷ l) e
       go false e = ap (λ (l : List (Order (Unit {0}))). orderAt rs fnd c ∷ orderAt rs fnd x ∷ l) (orders-append a b)
 
--- the levels with c at rest, as orders: the rulebook's `place`
+-- the levels with c at rest, as orders: the rules' `place`
 place-ups : (rs : List ℕ) (fnd : ℕ → Bool) (c p : ℕ) (ws : List Lvl) → field rs 2 c ≡ p → Tiers rs ws
     → orders rs fnd (ups (resting c p ws)) ≡ place ask (orderAt rs fnd c) (orders rs fnd (ups ws))
 place-ups rs fnd c p [] e t = sym (place-stop rs fnd ask c [] (λ x i. absurd (let z : ⊥ = omega arith in z)))

@@ -9,7 +9,6 @@ use lib.Dec.{eqb}
 use lib.ListN.{getD, length, length-set, set}
 use lib.Seq.{getD-set-other, getD-set-same}
 use borrow.Author.Tests.{eqb-false, eqb-true}
-use Rattle.rules.specs.Rules.{within}
 use Rattle.records.proofs.Cases.{lt?}
 use Rattle.side.specs.Prices.{Bracket, Closed, Opened, Rising}
 

@@ -4,7 +4,6 @@ use mathlib.Core.List.{List}
 use mathlib.Core.Logic.{_≢_}
 use mathlib.Core.Path.{_≡_}
 use lib.ListN.{getD, length}
-use Rattle.rules.specs.Rules.{within}
 use Rattle.arena.specs.Links.{headOf, priceOf, tailOf}
 
 -- row k is a new one, of price p and no queue; those from k up to n moved up

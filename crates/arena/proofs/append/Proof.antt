@@ -1,11 +1,7 @@
-use native.Mathlib.Omega.{arith}
+-- `arena::append` meets its contract. Assumes nothing.
 use borrow.Author.Needs.{needs}
 use Rattle.arena.proofs.append.Statement.{statement}
 use Rattle.arena.proofs.append.Tie as tie
-use Rattle.arena.proofs.append.Reads as reads
-use Rattle.arena.proofs.append.Lts as lts
-use Rattle.arena.proofs.fasten.Reads as fasten-reads
-use Rattle.records.proofs.store.Reads as store-reads
 
 mul-at : tie.Need-mul-at
 mul-at c = search needs

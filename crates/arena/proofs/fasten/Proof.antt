@@ -1,12 +1,10 @@
-use Rattle.arena.proofs.Links.{ties-row, ties-record}
-use mathlib.Core.Path.{_∙_, sym, ap, refl}
+-- `arena::fasten` meets its contract. Assumes nothing.
+use mathlib.Core.Path.{_∙_}
 use native.Mathlib.Omega.{arith}
 use borrow.Author.Needs.{needs}
+use Rattle.arena.proofs.Links.{ties-record, ties-row}
 use Rattle.arena.proofs.fasten.Statement.{statement}
 use Rattle.arena.proofs.fasten.Tie as tie
-use Rattle.arena.proofs.fasten.Reads as reads
-use Rattle.arena.proofs.fasten.Lts as lts
-use Rattle.records.proofs.store.Reads as store-reads
 
 mul-levels : tie.Need-mul-levels
 mul-levels c = search needs

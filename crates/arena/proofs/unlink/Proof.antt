@@ -1,13 +1,8 @@
-use Rattle.records.proofs.Rows.{row-length}
-use mathlib.Core.Path.{_∙_, sym, ap, refl}
-use native.Mathlib.Omega.{arith}
+-- `arena::unlink` meets its contract. Assumes nothing.
 use borrow.Author.Needs.{needs}
+use Rattle.records.proofs.Rows.{row-length}
 use Rattle.arena.proofs.unlink.Statement.{statement}
 use Rattle.arena.proofs.unlink.Tie as tie
-use Rattle.arena.proofs.unlink.Reads as reads
-use Rattle.arena.proofs.unlink.Lts as lts
-use Rattle.arena.proofs.fasten.Reads as fasten-reads
-use Rattle.records.proofs.load.Reads as load-reads
 
 load-requires : tie.Need-load-requires
 load-requires c κs = search needs

@@ -1,11 +1,7 @@
-use mathlib.Core.Path.{_≡_, refl, sym, ap, _∙_}
-use native.Mathlib.Omega.{arith}
+-- `arena::write` meets its contract. Assumes nothing.
 use borrow.Author.Needs.{needs}
 use Rattle.arena.proofs.write.Statement.{statement}
 use Rattle.arena.proofs.write.Tie as tie
-use Rattle.arena.proofs.write.Reads as reads
-use Rattle.arena.proofs.write.Lts as lts
-use Rattle.records.proofs.store.Reads as store-reads
 
 store-requires : tie.Need-store-requires
 store-requires c κs = search needs

@@ -1,13 +1,9 @@
+-- `ledger::cancel` meets its contract. Assumes nothing.
 use mathlib.Core.Path.{sym, _∙_}
 use borrow.Author.Needs.{needs}
 use Rattle.ledger.proofs.Cancelling.{cancel-done, cancel-none, found-rests, found-row, on-told}
 use Rattle.ledger.proofs.cancel.Statement.{statement}
 use Rattle.ledger.proofs.cancel.Tie as tie
-use Rattle.ledger.proofs.cancel.Reads as reads
-use Rattle.ledger.proofs.cancel.Lts as lts
-use Rattle.ledger.proofs.discard.Reads as discard-reads
-use Rattle.ledger.proofs.on_asks.Reads as on-asks-reads
-use Rattle.search.proofs.find.Reads as find-reads
 
 find-requires : tie.Need-find-requires
 find-requires c κs = search needs

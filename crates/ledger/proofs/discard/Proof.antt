@@ -1,12 +1,10 @@
+-- `ledger::discard` meets its contract. Assumes nothing.
 use native.Mathlib.Omega.{arith}
 use borrow.Author.Needs.{needs}
 use Rattle.search.specs.Seek.{at}
 use Rattle.ledger.proofs.Desk.{can-quit-ask, can-quit-bid, drop-ask, drop-bid, on-rests}
 use Rattle.ledger.proofs.discard.Statement.{statement}
 use Rattle.ledger.proofs.discard.Tie as tie
-use Rattle.ledger.proofs.discard.Reads as reads
-use Rattle.ledger.proofs.discard.Lts as lts
-use Rattle.ledger.proofs.quit.Reads as quit-reads
 
 sub-resting : tie.Need-sub-resting
 sub-resting c = let h = on-rests (c .before .before .before .before .before .pre .0) (c .before .before .before .before .before .args .ask) (c .before .before .before .before .before .args .c) (c .before .before .before .before .before .pre .1) in omega arith

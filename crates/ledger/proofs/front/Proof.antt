@@ -1,8 +1,7 @@
+-- `ledger::front` meets its contract. Assumes nothing.
 use borrow.Author.Needs.{needs}
 use Rattle.ledger.proofs.front.Statement.{statement}
 use Rattle.ledger.proofs.front.Tie as tie
-use Rattle.ledger.proofs.front.Reads as reads
-use Rattle.ledger.proofs.front.Lts as lts
 
 shared-slice-read-result : tie.Need-shared-slice-read-result
 shared-slice-read-result c = search needs

@@ -1,10 +1,8 @@
+-- `ledger::lessen` meets its contract. Assumes nothing.
 use borrow.Author.Needs.{needs}
 use Rattle.ledger.proofs.Lessening.{less-leaves, less-row}
 use Rattle.ledger.proofs.lessen.Statement.{statement}
 use Rattle.ledger.proofs.lessen.Tie as tie
-use Rattle.ledger.proofs.lessen.Reads as reads
-use Rattle.ledger.proofs.lessen.Lts as lts
-use Rattle.side.proofs.lessen.Reads as lessen-reads
 
 lessen-requires : tie.Need-lessen-requires
 lessen-requires c κs = less-row (c .before .before .before .before .before .pre .0) (c .before .before .before .before .before .args .c) (c .before .before .before .before .before .pre .1)

@@ -1,11 +1,9 @@
+-- `ledger::on_asks` meets its contract. Assumes nothing.
 use mathlib.Core.Logic.{inl, inr}
 use borrow.Author.Needs.{needs}
 use Rattle.search.specs.Seek.{at}
 use Rattle.ledger.proofs.on_asks.Statement.{statement}
 use Rattle.ledger.proofs.on_asks.Tie as tie
-use Rattle.ledger.proofs.on_asks.Reads as reads
-use Rattle.ledger.proofs.on_asks.Lts as lts
-use Rattle.records.proofs.load.Reads as load-reads
 
 returns : tie.Need-returns
 returns c = inl (c .if1 .taken)

@@ -1,33 +1,24 @@
+-- `ledger::quit` meets its contract. Assumes nothing.
 use borrow.Author.Needs.{needs}
 use Rattle.ledger.proofs.Quitting.{quit-needs, quits}
 use Rattle.ledger.proofs.quit.Statement.{statement}
 use Rattle.ledger.proofs.quit.Tie as tie
-use Rattle.ledger.proofs.quit.Reads as reads
-use Rattle.ledger.proofs.quit.Lts as lts
-use Rattle.search.proofs.forget.Reads as forget-reads
-use Rattle.side.proofs.discard.Reads as discard-reads
 
--- src/lib.rt:44:5
 forget-requires : tie.Need-forget-requires
 forget-requires c κs = quit-needs (c .before .before .before .before .before .pre)
 
--- src/lib.rt:45:5
 discard-requires : tie.Need-discard-requires
 discard-requires c κs = search needs
 
--- src/lib.rt:39:1
 same-length : tie.Need-same-length
 same-length c = search needs
 
--- src/lib.rt:39:1
 same-length-2 : tie.Need-same-length-2
 same-length-2 c = search needs
 
--- src/lib.rt:39:1
 same-length-3 : tie.Need-same-length-3
 same-length-3 c = search needs
 
--- src/lib.rt:39:1
 returns : tie.Need-returns
 returns c = quits (c .before .before .before .before .before .before .before .before .before .before .before .before .before .before .before .pre) (c .before .before .before .before .before .before .before .before .before .forget .ensures) (c .before .before .before .before .discard .ensures)
 

@@ -1,11 +1,9 @@
+-- `ledger::rest` meets its contract. Assumes nothing.
 use borrow.Author.Needs.{needs}
 use Rattle.search.specs.Seek.{at}
 use Rattle.ledger.proofs.Desk.{can-ask, can-bid, rest-ask, rest-bid}
 use Rattle.ledger.proofs.rest.Statement.{statement}
 use Rattle.ledger.proofs.rest.Tie as tie
-use Rattle.ledger.proofs.rest.Reads as reads
-use Rattle.ledger.proofs.rest.Lts as lts
-use Rattle.ledger.proofs.join.Reads as join-reads
 
 add-resting : tie.Need-add-resting
 add-resting c = search needs

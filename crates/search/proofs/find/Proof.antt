@@ -1,20 +1,15 @@
 -- `search::find` meets its contract. The invariant: what is left of the walk is the whole walk. Assumes nothing.
-use Prim.Native.Nat.{ℕ, _≤_, _<_, _-_}
-use mathlib.Core.Path.{_≡_, refl, sym, ap, _∙_}
-use borrow.Author.Needs.{needs}
-use native.Mathlib.Omega.{arith}
+use Prim.Native.Nat.{_-_, _<_, _≤_}
+use mathlib.Core.Path.{refl, sym, _∙_, _≡_}
 use native.Mathlib.Nat.{sub-zero}
+use native.Mathlib.Omega.{arith}
 use lib.ListN.{length}
-use Rattle.search.specs.Seek.{at, next, home, stops, Walk, walk, sought}
+use borrow.Author.Needs.{needs}
+use Rattle.search.specs.Seek.{sought, walk}
 use Rattle.search.proofs.Distance.{home-lt, next-lt}
-use Rattle.search.proofs.Walks.{turn-stop, turn-on, walk-none}
+use Rattle.search.proofs.Walks.{turn-on, turn-stop, walk-none}
 use Rattle.search.proofs.find.Statement.{statement}
 use Rattle.search.proofs.find.Tie as tie
-use Rattle.search.proofs.find.Reads as reads
-use Rattle.search.proofs.find.Lts as lts
-use Rattle.search.proofs.after.Reads as after-reads
-use Rattle.search.proofs.ends_at.Reads as ends-at-reads
-use Rattle.search.proofs.home_of.Reads as home-of-reads
 
 abbrev Inv-loop : tie.InvT-loop
 Inv-loop table rs id m p₀ n₀ p n = (p < length table) × (n ≤ length table) × (walk table rs id (length table - n) p n ≡ sought table rs id)

@@ -1,15 +1,15 @@
 -- `search::remove` meets its contract: Knuth's Algorithm R. The invariant: what is left of the pull is the whole pull; the measure is the places left to look at. Assumes nothing.
-use Prim.Native.Nat.{ℕ, _≤_, _<_, _-_}
-use mathlib.Core.Path.{_≡_, refl, sym, ap, _∙_}
+use Prim.Native.Nat.{ℕ}
 use mathlib.Core.Logic.{inl}
-use borrow.Author.Needs.{needs}
+use mathlib.Core.Path.{ap, refl, sym, _∙_, _≡_}
 use native.Mathlib.Omega.{arith}
-use lib.ListN.{length, getD, set, length-set}
+use lib.ListN.{getD, length, length-set, set}
+use borrow.Author.Needs.{needs}
 use Rattle.records.specs.Rows.{field}
-use Rattle.search.specs.Seek.{home, dist, pull, removing}
+use Rattle.search.specs.Seek.{dist, home, pull, removing}
 use Rattle.search.proofs.Distance.{home-lt, next-lt}
 use Rattle.search.proofs.Entries.{inside-row}
-use Rattle.search.proofs.Pulling.{Pulling, set-points, pull-done, pull-out, pulling-keep, pulling-move}
+use Rattle.search.proofs.Pulling.{Pulling, pull-done, pull-out, pulling-keep, pulling-move, set-points}
 use Rattle.search.proofs.remove.Statement.{statement}
 use Rattle.search.proofs.remove.Tie as tie
 

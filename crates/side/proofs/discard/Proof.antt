@@ -1,3 +1,4 @@
+-- `side::discard` meets its contract. Assumes nothing.
 use native.Mathlib.Omega.{arith}
 use borrow.Author.Needs.{needs}
 use Rattle.records.proofs.Rows.{row-length}
@@ -5,13 +6,6 @@ use Rattle.side.proofs.Leaving.{discards-keep, discards-shut, shut-need
 use Rattle.side.proofs.Stored.{rising, row-of}
 use Rattle.side.proofs.discard.Statement.{statement}
 use Rattle.side.proofs.discard.Tie as tie
-use Rattle.side.proofs.discard.Reads as reads
-use Rattle.side.proofs.discard.Lts as lts
-use Rattle.side.proofs.find_row.Reads as find-row-reads
-use Rattle.arena.proofs.give_back.Reads as give-back-reads
-use Rattle.records.proofs.load.Reads as load-reads
-use Rattle.side.proofs.shut_row.Reads as shut-row-reads
-use Rattle.arena.proofs.unlink.Reads as unlink-reads
 
 load-requires : tie.Need-load-requires
 load-requires c κs = (search needs, row-of (c .before .before .before .pre .stored) _ (omega (arith, c .before .before .before .pre .inside)))

@@ -1,3 +1,4 @@
+-- `side::find_row` meets its contract. Assumes nothing.
 use Prim.Native.Nat.{_-_}
 use mathlib.Core.Path.{_≡_}
 use native.Mathlib.Omega.{arith}
@@ -6,9 +7,6 @@ use Rattle.side.specs.Prices.{Bracket}
 use Rattle.side.proofs.Shift.{bracket-start}
 use Rattle.side.proofs.find_row.Statement.{statement}
 use Rattle.side.proofs.find_row.Tie as tie
-use Rattle.side.proofs.find_row.Reads as reads
-use Rattle.side.proofs.find_row.Lts as lts
-use Rattle.side.proofs.halve.Reads as halve-reads
 
 abbrev Inv-loop : tie.InvT-loop
 Inv-loop levels n price s₀ s = Bracket levels n price (s .lo) (s .hi)

@@ -1,10 +1,8 @@
+-- `side::lessen` meets its contract. Assumes nothing.
 use borrow.Author.Needs.{needs}
 use Rattle.side.proofs.Lessening.{lessens}
 use Rattle.side.proofs.lessen.Statement.{statement}
 use Rattle.side.proofs.lessen.Tie as tie
-use Rattle.side.proofs.lessen.Reads as reads
-use Rattle.side.proofs.lessen.Lts as lts
-use Rattle.records.proofs.store.Reads as store-reads
 
 store-requires : tie.Need-store-requires
 store-requires c κs = search needs

@@ -1,12 +1,10 @@
+-- `side::ready` meets its contract. Assumes nothing.
 use mathlib.Core.Path.{refl}
 use native.Mathlib.Omega.{arith}
 use borrow.Author.Needs.{needs}
 use Rattle.side.specs.Prices.{new, old}
 use Rattle.side.proofs.ready.Statement.{statement}
 use Rattle.side.proofs.ready.Tie as tie
-use Rattle.side.proofs.ready.Reads as reads
-use Rattle.side.proofs.ready.Lts as lts
-use Rattle.side.proofs.open_row.Reads as open-row-reads
 
 mul-if2 : tie.Need-mul-if2
 mul-if2 c = search needs

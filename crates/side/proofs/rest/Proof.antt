@@ -1,15 +1,9 @@
+-- `side::rest` meets its contract. Assumes nothing.
 use borrow.Author.Needs.{needs}
 use Rattle.side.proofs.Resting.{append-asks, ready-needs, rests, row}
 use Rattle.side.proofs.Stored.{rising}
 use Rattle.side.proofs.rest.Statement.{statement}
 use Rattle.side.proofs.rest.Tie as tie
-use Rattle.side.proofs.rest.Reads as reads
-use Rattle.side.proofs.rest.Lts as lts
-use Rattle.arena.proofs.append.Reads as append-reads
-use Rattle.side.proofs.find_row.Reads as find-row-reads
-use Rattle.arena.proofs.take.Reads as take-reads
-use Rattle.side.proofs.ready.Reads as ready-reads
-use Rattle.arena.proofs.write.Reads as write-reads
 
 take-requires : tie.Need-take-requires
 take-requires c κs = row 0 0 0 0 (c .before .before .before .pre .stored)

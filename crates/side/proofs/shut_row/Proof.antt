@@ -1,3 +1,4 @@
+-- `side::shut_row` meets its contract. Assumes nothing.
 use Prim.Native.Nat.{_*_, _-_, _≤_}
 use mathlib.Core.Path.{refl, _≡_}
 use native.Mathlib.Omega.{arith}
@@ -7,8 +8,6 @@ use Rattle.side.specs.Prices.{Closed}
 use Rattle.side.proofs.Shift.{closed-start, closed-step}
 use Rattle.side.proofs.shut_row.Statement.{statement}
 use Rattle.side.proofs.shut_row.Tie as tie
-use Rattle.side.proofs.shut_row.Reads as reads
-use Rattle.side.proofs.shut_row.Lts as lts
 
 abbrev Inv-loop : tie.InvT-loop
 Inv-loop levels₀ n k last j₀ levels j = (k * 3 ≤ j) × (j ≤ last) × (length levels ≡ length levels₀) × Closed levels₀ (k * 3) j levels
