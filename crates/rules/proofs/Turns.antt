@@ -9,7 +9,7 @@ use mathlib.Core.Option.{Option, none, some}
 use lib.Dec.{leb, eqb}
 use borrow.Author.Tests.{leb-true, leb-false, eq-eqb, ne-eqb}
 use Rattle.rules.specs.Rules.{Side, bid, ask, opposite, asGood, within, Order, Book, Taker, Fill, Outcome, own, best, given, fillFrom, withLeft, filling, keeping, meet, matching, total, outcome, Call, Size, end}
-use Rattle.rules.specs.Whole.{All, empty, _&_, Sorted, sorted[], sorted∷, Positive, Whole}
+use Rattle.rules.specs.Whole.{All, empty, _&_, Sorted, sorted[], sorted∷, Positive, Apart, Whole}
 use Rattle.rules.specs.Turns.{Taken, enough, nobody, beyond, wholly, partly, supply}
 use Rattle.rules.proofs.Basics.{within-worse, all-map, all-head}
 use Rattle.rules.proofs.Match.{keeping-all, given-within, given-le, idle-done, idle-beyond}
@@ -117,14 +117,17 @@ module _ {A : Type 0} where
 
   -- ---- the book
 
-  -- the best bid stays below the best ask
-  pub spread-positive : (z : Size) (h : List (Call A)) (p q : ℕ) → best ((end z h) .book .bids) ≡ some p → best ((end z h) .book .asks) ≡ some q → p < q
-  spread-positive z h p q = go ((end z h) .book .bids) ((end z h) .book .asks) ((whole-end z h) .apart bid)
+  -- the best bid of a whole book is below its best ask; so it stays in every history
+  pub best-apart : (b : Book A) → Whole b → (p q : ℕ) → best (b .bids) ≡ some p → best (b .asks) ≡ some q → p < q
+  best-apart b w p q = go (b .bids) (b .asks) (w .apart bid)
     where
-      go : (l k : List (Order A)) → Rattle.rules.specs.Whole.Apart bid l k → best l ≡ some p → best k ≡ some q → p < q
+      go : (l k : List (Order A)) → Apart bid l k → best l ≡ some p → best k ≡ some q → p < q
       go [] k a e f = absurd (let n : _≡_ {A = ℕ} 0 1 = cc in let x : ⊥ = omega arith in x)
       go (m ∷ l) [] a e f = absurd (let n : _≡_ {A = ℕ} 0 1 = cc in let x : ⊥ = omega arith in x)
       go (m ∷ l) (n ∷ k) a e f =
           let x : m .price ≡ p = cc in
           let y : n .price ≡ q = cc in
           omega (arith, leb-false (n .price) (m .price) (all-head (all-head a)))
+
+  pub spread-positive : (z : Size) (h : List (Call A)) (p q : ℕ) → best ((end z h) .book .bids) ≡ some p → best ((end z h) .book .asks) ≡ some q → p < q
+  spread-positive z h p q = best-apart ((end z h) .book) (whole-end z h) p q

@@ -1,0 +1,73 @@
+-- A side that stands: its rows, as a walk reads them. Assumes nothing.
+use Prim.Native.Nat.{suc, zero, ℕ, _+_, _<_, _≤_}
+use mathlib.Core.List.{List, [], _∷_}
+use mathlib.Core.Logic.{_≢_}
+use mathlib.Core.Path.{ap, _∙_, _≡_}
+use native.Mathlib.Omega.{arith}
+use lib.ListN.{length}
+use Rattle.records.specs.Rows.{Row, places}
+use Rattle.arena.specs.Free.{chain}
+use Rattle.arena.specs.Links.{headOf, link, priceOf, tailOf}
+use Rattle.arena.specs.Ring.{Run}
+use Rattle.arena.specs.Times.{times}
+use Rattle.arena.proofs.Times.{one-self}
+use Rattle.side.specs.Levels.{Lvl, nth}
+use Rattle.side.specs.Read.{levelsFrom, levelsIn}
+use Rattle.side.specs.Prices.{Rising}
+use Rattle.side.proofs.Levels.{nth-times}
+use Rattle.ledger.specs.Desk.{Busy}
+use Rattle.depth.specs.Sides.{Queue, Standing, queueIn}
+use Rattle.depth.proofs.Queues.{ring-ends}
+
+-- level j of those read from row i on
+from-nth : (m : ℕ) (rs lv : List ℕ) (i n j : ℕ) → j < n → nth (levelsFrom m rs lv i n) j ≡ record { price = priceOf lv (i + j); queue = chain m rs (headOf lv (i + j)) }
+from-nth m rs lv i zero j h = absurd (let g : ⊥ = omega arith in g)
+from-nth m rs lv i (suc n) zero h = let e : i + 0 ≡ i = omega arith in rw e
+from-nth m rs lv i (suc n) (suc j) h =
+    let e : suc i + j ≡ i + suc j = omega arith in
+    from-nth m rs lv (suc i) n j (omega arith) ∙ ap (λ (k : ℕ). record { price = priceOf lv k; queue = chain m rs (headOf lv k) }) e
+
+pub busy-at : (ws : List Lvl) (i : ℕ) → Busy ws → i < length ws → 1 ≤ length (nth ws i .queue)
+busy-at [] i b h = absurd (let z : ⊥ = omega arith in z)
+busy-at (v ∷ ws) zero b h = b .0
+busy-at (v ∷ ws) (suc i) b h = busy-at ws i (b .1) (omega arith)
+
+module _ {rs lv : List ℕ} {n : ℕ} (s : Standing rs lv n) where
+  abbrev ws : List Lvl
+  ws = levelsIn rs lv n
+
+  pub some-row : (i : ℕ) → i < n → i < length ws
+  some-row i h = omega (arith, s .ladder .count)
+
+  row-queue : (i : ℕ) → i < n → nth ws i .queue ≡ queueIn rs (headOf lv i)
+  row-queue i h =
+      let e : 0 + i ≡ i = omega arith in
+      ap (λ (w : Lvl). w .queue) (from-nth (places rs) rs lv 0 n i h) ∙ ap (λ (k : ℕ). queueIn rs (headOf lv k)) e
+
+  row-rows : (i : ℕ) → i < n → (x : ℕ) → 1 ≤ times x (nth ws i .queue) → Row rs x
+  row-rows i h x j = s .rows x (omega (arith, nth-times x ws i (some-row i h)))
+
+  -- the queue of row i
+  pub queue-at : (i : ℕ) → i < n → Queue rs (headOf lv i)
+  queue-at i h =
+      let e = row-queue i h in
+      let v = s .ladder .level i h in
+      record {
+        ends = rw e at (ring-ends (link rs 4 (tailOf lv i)) (headOf lv i) 0 (nth ws i .queue) (v .ring) (row-rows i h));
+        rows = λ x j. row-rows i h x (rw e j);
+      }
+
+  -- it is not empty
+  pub head-some : (i : ℕ) → i < n → headOf lv i ≢ 0
+  head-some i h = go (nth ws i .queue) (busy-at ws i (s .busy) (some-row i h)) (s .ladder .level i h .ring) (row-rows i h)
+    where
+      go : (q : List ℕ) → 1 ≤ length q → Run (link rs 3 (headOf lv i)) (link rs 4 (tailOf lv i)) 0 q 0 → ((x : ℕ) → 1 ≤ times x q → Row rs x) → headOf lv i ≢ 0
+      go [] o r k = absurd (let z : ⊥ = omega arith in z)
+      go (x ∷ q) o r k = λ z. omega (arith, k x (omega (arith, one-self x)) .some, r .0)
+
+  -- the rows as the search for a price sees them
+  pub rising : Rising lv n
+  rising = record {
+    room = s .ladder .room;
+    rise = λ i j a b. rw (s .ladder .level i (omega arith) .price, s .ladder .level j b .price) (s .ladder .rising i j a b);
+  }

@@ -1,0 +1,112 @@
+// An order carried out on the makers: the second of the two passes. Fills are written and makers' quantities fall; a used-up maker holds 0 until it leaves.
+// `records` and `fills` are lent and changed; `levels` has the rows of the side that the order meets, n of them used.
+ghost use mathlib.Core.Path.{_≡_};
+ghost use Prim.Native.Nat.{min};
+ghost use Rattle.records.specs.Rows.{Row};
+ghost use Rattle.models.specs.Rows.{Place, fillRow};
+ghost use Rattle.matching.specs.Carried.{CanCarry, Carries, Gives};
+use arena::HEAD;
+use arena::ROW;
+use models::FillMetadata;
+use models::Id;
+use models::Price;
+use models::Quantity;
+use models::rows::put_fill;
+use records::ID;
+use records::NEXT;
+use records::PRICE;
+use records::QUANTITY;
+use records::load;
+use records::store;
+use survey::Taker;
+use survey::reaches;
+use survey::visit;
+
+// The last fill's price and quantity; both are 0 where there is none.
+pub struct Last {
+    pub price: Price,
+    pub qty: Quantity,
+}
+
+// What is left of an order, its fills so far, and the last of them.
+pub struct Progress {
+    pub left: Quantity,
+    pub fills: usize,
+    pub last: Last,
+}
+
+fn smaller(a: u64, b: u64) -> u64
+    ensures { λ r. ⌜ r ≡ min a b ⌝ }
+{
+    if a <= b { a } else { b }
+}
+
+// The maker of code `c` gives what it can: its quantity falls, and the fill is written.
+fn give(records: &mut [u64], c: u64, t: Taker, fills: &mut [u64], p: Progress) -> Progress
+    requires { ⌜ Row (now records) c × Place fillRow (now fills) (p .fills) ⌝ }
+    ensures { λ r. ⌜ Gives t c p (now (records .entry)) (now (fills .entry)) (now (records .exit)) (now (fills .exit)) r ⌝ }
+{
+    let quantity = load(records, QUANTITY, c);
+    let maker = load(records, ID, c);
+    let price = load(records, PRICE, c);
+    let left = p.left.0;
+    let i = p.fills;
+    let given = smaller(quantity, left);
+    let id = t.id;
+    let side = t.side;
+    put_fill(
+        fills,
+        i,
+        FillMetadata {
+            order_1: id,
+            order_2: Id(maker),
+            qty: Quantity(given),
+            price: Price(price),
+            taker_side: side,
+            total_fill: quantity <= left,
+        },
+    );
+    store(records, QUANTITY, c, quantity - given);
+    Progress {
+        left: Quantity(left - given),
+        fills: i + 1,
+        last: Last {
+            price: Price(price),
+            qty: Quantity(given),
+        },
+    }
+}
+
+// The order carried out. Both walks stop at once when nothing of it is left.
+pub fn carry_out(records: &mut [u64], levels: &[u64], n: usize, t: Taker, fills: &mut [u64]) -> Last
+    requires { ⌜ CanCarry t (now records) (now levels) n (now fills) ⌝ }
+    ensures { λ r. ⌜ Carries t (now (records .entry)) (now (levels .entry)) n (now (fills .entry)) (now (records .exit)) (now (fills .exit)) r ⌝ }
+{
+    let mut p = Progress {
+        left: Quantity(t.qty.0),
+        fills: 0,
+        last: Last {
+            price: Price(0),
+            qty: Quantity(0),
+        },
+    };
+    let mut k = n;
+    'prices: while 0 < k {
+        let at = visit(t, n, k) * ROW;
+        if !reaches(t, levels[at]) {
+            break 'prices;
+        }
+        let mut c = levels[at + HEAD];
+        while c != 0 {
+            if p.left.0 == 0 {
+                break 'prices;
+            }
+            let next = load(records, NEXT, c);
+            p = give(records, c, t, fills, p);
+            c = next;
+        }
+        k -= 1;
+    }
+    let last = p.last;
+    last
+}

@@ -1,0 +1,4 @@
+pub mod Readings
+pub mod Capped
+pub mod Places
+pub mod Recording

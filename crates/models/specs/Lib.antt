@@ -1,0 +1,4 @@
+pub mod Readings
+pub mod Rows
+pub mod Sums
+pub mod Statistics

@@ -1,0 +1,56 @@
+-- What comes of the statistics and a list of fills, in the rule book's terms. Assumes nothing.
+use Prim.Native.Nat.{ℕ, _+_, _*_, _/_, _≤_, _<_, min}
+use mathlib.Core.Path.{_≡_}
+use mathlib.Core.Bool.{Bool, true, _&&_, _||_}
+use mathlib.Core.List.{List}
+use lib.Dec.{ltb}
+use Rattle.rules.specs.Rules as rule
+use Rattle.models.specs.declared.Statistics.{Statistics}
+use Rattle.models.specs.declared.Recorded.{Recorded}
+use Rattle.models.specs.declared.stats.Totals.{Totals}
+use Rattle.models.specs.Readings.{statisticsOf}
+use Rattle.models.specs.Rows.{fillRow, places, listed}
+use Rattle.models.specs.Sums.{capped, plusOf}
+
+-- ---- S and the quantity of some fills
+
+unfoldable pub totalsOf : List (rule.Fill (Unit {0})) → Totals
+totalsOf l = record { worth = capped (rule.worth l); quantity = capped (rule.total l) }
+
+-- one fill more
+unfoldable pub withFill : Totals → ℕ → ℕ → Totals
+withFill t price quantity = record { worth = plusOf (t .worth) (capped (price * quantity)); quantity = plusOf (t .quantity) (capped quantity) }
+
+-- ---- an order's trade
+
+-- the last trade after an order that filled q, S being s
+abbrev pub tradeFor : ℕ → ℕ → ℕ → ℕ → rule.Trade
+tradeFor q s price quantity = record { quantity = q; average = rule.average s q; wholeAverage = s / q; lastPrice = price; lastQuantity = quantity }
+
+-- refusal 3, from the number of fills and their totals
+unfoldable pub overOf : Statistics → ℕ → Totals → Bool
+overOf st n t = st .tracking && (ltb 0 n && (t .worth .over || (plusOf (capped (st .volume .0)) (t .quantity)) .over))
+
+-- where tracking is on and there is something to add, the new volume fits
+abbrev pub Fits : Statistics → ℕ → Type 0
+Fits st q = st .tracking ≡ true → 0 < q → st .volume .0 + q ≤ rule.most
+
+-- ---- any list of fills
+
+-- the fills in a lent list, of which there are said to be n: no more count than there are places
+abbrev pub fillsIn : List ℕ → ℕ → List (rule.Fill (Unit {0}))
+fillsIn l n = listed fillRow l (min n (places fillRow l))
+
+-- the number of an answer, and the statistics that stand behind it
+abbrev pub numberOf : rule.Recorded → ℕ
+numberOf (rule.Recorded.refused n) = n
+numberOf (rule.Recorded.recorded new) = 0
+
+abbrev pub standing : rule.Stats → rule.Recorded → rule.Stats
+standing old (rule.Recorded.refused n) = old
+standing old (rule.Recorded.recorded new) = new
+
+-- r is what the rule book makes of the statistics st and the fills l: 0 with the new statistics, or the number of the refusal with the old
+pub record Follows (st : Statistics) (l : List (rule.Fill (Unit {0}))) (r : Recorded) : Type 0 where
+  pub code : r .code ≡ numberOf (rule.recording l (statisticsOf st))
+  pub statistics : statisticsOf (r .statistics) ≡ standing (statisticsOf st) (rule.recording l (statisticsOf st))

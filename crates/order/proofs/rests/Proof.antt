@@ -1,0 +1,18 @@
+use Rattle.order.proofs.Deciding.{remains-none, remains-some}
+use mathlib.Core.Path.{sym}
+use borrow.Author.Needs.{needs}
+use Rattle.order.proofs.rests.Statement.{statement}
+use Rattle.order.proofs.rests.Tie as tie
+use Rattle.order.proofs.rests.Reads as reads
+use Rattle.order.proofs.rests.Lts as lts
+
+-- src/lib.rt:30:9
+returns : tie.Need-returns
+returns c = sym (remains-none _ _ (c .if1 .taken))
+
+-- src/lib.rt:26:1
+returns-2 : tie.Need-returns-2
+returns-2 c = sym (remains-some _ _ (c .before .if1 .left))
+
+pub rests-spec : {M : Type 1} → statement M
+rests-spec = tie.close (tie.spec returns returns-2)

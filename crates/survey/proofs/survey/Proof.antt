@@ -1,0 +1,112 @@
+-- `survey` comes to what the rules say the order would do. Each turn of its two loops, and each way out, is a law of Walk. Assumes nothing.
+use Prim.Native.Nat.{_-_, _≤_}
+use mathlib.Core.Path.{sym, _∙_}
+use native.Mathlib.Omega.{arith}
+use borrow.Author.Tests.{not-false, not-true}
+use Rattle.models.specs.Sums.{capped}
+use Rattle.survey.proofs.Walk.{Along, Inside, ahead, along-start, prices-beyond, prices-none, queue-done, queue-full, queue-less, queue-next, queue-row, queue-start}
+use borrow.Author.Needs.{needs}
+use Rattle.survey.proofs.survey.Statement.{statement}
+use Rattle.survey.proofs.survey.Tie as tie
+
+abbrev Inv-loop : tie.InvT-loop
+Inv-loop records levels n t s₀ k at c₀ s c = Inside records levels n t s (k - 1) c
+
+abbrev μ-loop : tie.MeasureT-loop
+μ-loop records levels n t s₀ k at c₀ s c = s .left .0
+
+abbrev Inv-prices : tie.InvT-prices
+Inv-prices records levels n t s₀ k₀ s k = (k ≤ n) × Along records levels n t s (ahead records levels n t k)
+
+abbrev μ-prices : tie.MeasureT-prices
+μ-prices records levels n t s₀ k₀ s k = k
+
+prices-holds : tie.Need-prices-holds Inv-loop μ-loop Inv-prices μ-prices
+unfolding capped
+prices-holds c = (omega arith, along-start _ _ _ _ (c .before .before .pre))
+
+visit-requires : tie.Need-visit-requires Inv-loop μ-loop Inv-prices μ-prices
+visit-requires c κs = search needs
+
+mul-at : tie.Need-mul-at Inv-loop μ-loop Inv-prices μ-prices
+mul-at c = search needs
+
+mul-reaches : tie.Need-mul-reaches Inv-loop μ-loop Inv-prices μ-prices
+mul-reaches c = search needs
+
+shared-slice-read-reaches : tie.Need-shared-slice-read-reaches Inv-loop μ-loop Inv-prices μ-prices
+shared-slice-read-reaches c = search needs
+
+reaches-requires : tie.Need-reaches-requires Inv-loop μ-loop Inv-prices μ-prices
+reaches-requires c κs = search needs
+
+add-c : tie.Need-add-c Inv-loop μ-loop Inv-prices μ-prices
+add-c c = search needs
+
+mul-c : tie.Need-mul-c Inv-loop μ-loop Inv-prices μ-prices
+mul-c c = search needs
+
+shared-slice-read-c : tie.Need-shared-slice-read-c Inv-loop μ-loop Inv-prices μ-prices
+shared-slice-read-c c = search needs
+
+loop-holds : tie.Need-loop-holds Inv-loop μ-loop Inv-prices μ-prices
+loop-holds c = queue-start _ _ _ _ (c .before .before .before .before .before .before .before .before .before .pre) (c .before .before .before .before .before .before .prices .inv .0) (c .before .before .before .before .before .prices-test .taken) (c .before .before .before .before .visit .ensures .0) (c .before .before .before .before .visit .ensures .1) (sym (c .before .before .reaches .ensures) ∙ not-false _ (c .before .if1 .left)) (c .before .before .before .before .before .before .prices .inv .1)
+
+meet-requires : tie.Need-meet-requires Inv-loop μ-loop Inv-prices μ-prices
+meet-requires c κs = (queue-row _ _ _ _ (c .before .before .before .before .before .before .before .before .before .before .before .before .before .pre) (omega arith) (c .before .before .before .loop .inv), omega arith, omega (arith, c .before .before .before .loop .inv .along .count), c .before .before .before .loop .inv .along .fewer)
+
+load-requires : tie.Need-load-requires Inv-loop μ-loop Inv-prices μ-prices
+load-requires c κs = (omega arith, queue-row _ _ _ _ (c .before .before .before .before .before .before .before .before .before .before .before .before .before .before .pre) (omega arith) (c .before .before .before .before .loop .inv))
+
+loop-less : tie.Need-loop-less Inv-loop μ-loop Inv-prices μ-prices
+loop-less c = rw (c .before .meet .ensures) (queue-less _ _ _ _ (c .before .before .before .before .before .before .before .before .before .before .before .before .before .before .before .pre) (omega arith) (c .before .before .before .before .before .loop .inv) (omega arith))
+
+loop-again : tie.Need-loop-again Inv-loop μ-loop Inv-prices μ-prices
+loop-again c = rw (c .load .ensures, c .before .meet .ensures) (queue-next _ _ _ _ (c .before .before .before .before .before .before .before .before .before .before .before .before .before .before .before .pre) (omega arith) (c .before .before .before .before .before .loop .inv) (omega arith))
+
+sub-k : tie.Need-sub-k Inv-loop μ-loop Inv-prices μ-prices
+sub-k c = search needs
+
+prices-less : tie.Need-prices-less Inv-loop μ-loop Inv-prices μ-prices
+prices-less c = search needs
+
+prices-again : tie.Need-prices-again Inv-loop μ-loop Inv-prices μ-prices
+prices-again c = (omega arith, queue-done _ _ _ _ (c .before .before .before .before .before .before .before .before .before .before .before .pre) (omega arith) (c .before .loop .inv))
+
+returns : tie.Need-returns Inv-loop μ-loop Inv-prices μ-prices
+returns c = prices-none _ _ _ _ (c .before .before .before .before .pre) (c .before .prices .inv .0) (omega arith) (c .before .prices .inv .1)
+
+returns-2 : tie.Need-returns-2 Inv-loop μ-loop Inv-prices μ-prices
+returns-2 c = prices-beyond _ _ _ _ (c .before .before .before .before .before .before .before .before .pre) (c .before .before .before .before .before .prices .inv .0) (c .before .before .before .before .prices-test .taken) (c .before .before .before .visit .ensures .0) (c .before .before .before .visit .ensures .1) (sym (c .before .reaches .ensures) ∙ not-true _ (c .if1 .taken)) (c .before .before .before .before .before .prices .inv .1)
+
+returns-3 : tie.Need-returns-3 Inv-loop μ-loop Inv-prices μ-prices
+returns-3 c = queue-full _ _ _ _ (c .before .before .before .before .before .before .before .before .before .before .before .before .before .pre) (omega arith) (c .before .before .before .loop .inv)
+
+pub survey-spec : {M : Type 1} → statement M
+survey-spec =
+    tie.close
+    (tie.spec
+    Inv-loop
+    μ-loop
+    Inv-prices
+    μ-prices
+    prices-holds
+    visit-requires
+    mul-at
+    mul-reaches
+    shared-slice-read-reaches
+    reaches-requires
+    add-c
+    mul-c
+    shared-slice-read-c
+    loop-holds
+    meet-requires
+    load-requires
+    loop-less
+    loop-again
+    sub-k
+    prices-less
+    prices-again
+    returns
+    returns-2
+    returns-3)

@@ -1,0 +1,3 @@
+pub mod Taker
+pub mod Makers
+pub mod Surveyed

@@ -1,0 +1,41 @@
+-- What an order makes of the book that is stored, its remainder aside. Assumes nothing.
+use Prim.Native.Nat.{ℕ, _≤_}
+use mathlib.Core.List.{List}
+use mathlib.Core.Path.{_≡_}
+use lib.ListN.{drop, length}
+use Rattle.rules.specs.Rules.{Book, Outcome, Side, book, lastPrice, lastQuantity, opposite, outcome, own}
+use Rattle.rules.specs.Whole.{Whole}
+use Rattle.models.specs.Readings.{sideOf}
+use Rattle.models.specs.Rows.{fillRow, places, written}
+use Rattle.ledger.specs.declared.OrderBook.{OrderBook}
+use Rattle.ledger.specs.Desk.{Desk, Leaves, deskBook}
+use Rattle.survey.specs.declared.Taker.{Taker}
+use Rattle.survey.specs.Surveyed.{wholes}
+use Rattle.survey.specs.Taker.{metSide, takerOf}
+use Rattle.trade.specs.declared.Traded.{Traded}
+
+-- the book without the n best orders of side sd
+abbrev pub swept : Side → ℕ → Book (Unit {0}) → Book (Unit {0})
+swept sd n k = book sd (drop n (own sd k)) (own (opposite sd) k)
+
+-- what comes of the order u among the makers of the book k
+abbrev pub comes : ℕ → Taker → Book (Unit {0}) → Outcome (Unit {0})
+comes room u k = outcome (takerOf room u) (own (metSide u) k)
+
+-- the book once it has traded: the makers that are left, and its own side as before
+abbrev pub after : ℕ → Taker → Book (Unit {0}) → Book (Unit {0})
+after room u k = book (metSide u) ((comes room u k) .left) (own (sideOf (u .side)) k)
+
+-- the book of storage is whole, n makers are to be used up, and `out` has a place for each fill
+pub record CanTrade (u : Taker) (n : ℕ) (rs bd ak se out : List ℕ) (b : OrderBook) : Type 0 where
+  pub desk : Desk rs bd ak se (b .resting) (b .free) (b .bids) (b .asks)
+  pub whole : Whole (deskBook rs bd ak se (b .bids) (b .asks))
+  pub used : (room : ℕ) → n ≡ wholes ((comes room u (deskBook rs bd ak se (b .bids) (b .asks))) .fills)
+  pub room : (room : ℕ) → length ((comes room u (deskBook rs bd ak se (b .bids) (b .asks))) .fills) ≤ places fillRow out
+
+-- k is the book before; the fills stand from the start of the buffer, and what lay beyond stays
+pub record Trades (u : Taker) (k : Book (Unit {0})) (out rs bd ak se out′ : List ℕ) (r : Traded) : Type 0 where
+  pub book : (room : ℕ) → Leaves (after room u k) rs bd ak se (r .book .resting) (r .book .free) (r .book .bids) (r .book .asks)
+  pub fills : (room : ℕ) → out′ ≡ written fillRow out 0 ((comes room u k) .fills)
+  pub price : (room : ℕ) → r .last .price .0 ≡ lastPrice ((comes room u k) .fills)
+  pub quantity : (room : ℕ) → r .last .qty .0 ≡ lastQuantity ((comes room u k) .fills)

@@ -1,0 +1,189 @@
+-- What a desk (the doors' invariant) says of the rules' book that it stands for: its orders stand in their turns, its counts are the book's,
+-- a price of its rows is an occupied one, and the best is at the front. Assumes nothing.
+use Prim.Native.Nat.{ℕ, _*_, _+_, _-_, _<_, _≤_}
+use mathlib.Core.Bool.{Bool, false, not, true}
+use mathlib.Core.List.{List, [], _∷_}
+use mathlib.Core.Logic.{_≢_}
+use mathlib.Core.Option.{some}
+use mathlib.Core.Path.{ap, sym, _∙_, _≡_}
+use native.Mathlib.Omega.{arith}
+use lib.Dec.{leb}
+use lib.ListN.{length}
+use borrow.Author.Tests.{le-leb, leb-false, lt-leb}
+use Rattle.rules.specs.Rules.{Book, Side, Size, ask, best, bid, crowded, full, levels, occupied, own}
+use Rattle.rules.specs.Whole.{Once, Sorted}
+use Rattle.records.specs.Rows.{field, places}
+use Rattle.search.specs.Seek.{lookup}
+use Rattle.arena.specs.Links.{headOf, link, priceOf, tailOf}
+use Rattle.arena.specs.Ring.{Run}
+use Rattle.arena.specs.Times.{times}
+use Rattle.arena.proofs.Times.{one-self}
+use Rattle.side.specs.Doors.{RoomFor}
+use Rattle.side.specs.Levels.{Ladder, Lvl, nth, ups}
+use Rattle.side.specs.Orders.{codes, orders}
+use Rattle.side.specs.Read.{levelsIn}
+use Rattle.side.proofs.Leaving.{stands}
+use Rattle.side.proofs.Levels.{nth-times}
+use Rattle.side.proofs.Orders.{codes-times, side-tiers}
+use Rattle.side.proofs.Stored.{at-most-one}
+use Rattle.ledger.specs.Desk.{Busy, Desk, deskBook, found}
+use Rattle.ledger.specs.Doors.{On, RoomOn, frontRow, sideOf}
+use Rattle.ledger.proofs.Best.{front-ask, front-bid}
+use Rattle.whole.specs.Whole.{Lengths}
+use Rattle.whole.proofs.Orders.{codes-length, levels-side, occupied-no, occupied-yes, orders-length, seen-most, sorted-side}
+use Rattle.whole.proofs.Sides.{busy-at}
+
+-- the rows of a side, and how many
+abbrev pub rowsOn : Bool → List ℕ → List ℕ → List ℕ
+rowsOn true bd ak = ak
+rowsOn false bd ak = bd
+
+abbrev pub countOn : Bool → ℕ → ℕ → ℕ
+countOn true nb na = na
+countOn false nb na = nb
+
+some-of : (l : List ℕ) → 1 ≤ length l → (x : ℕ) × (1 ≤ times x l)
+some-of [] h = absurd (let z : ⊥ = omega arith in z)
+some-of (x ∷ l) h = (x, omega (arith, one-self x))
+
+-- ## One side
+
+module _ {rs lv : List ℕ} {n : ℕ} {ws : List Lvl} (a : Ladder rs lv n ws) where
+  -- each row's price is that of an order there
+  pub row-order : Busy ws → (i : ℕ) → i < n → (x : ℕ) × (1 ≤ times x (ups ws)) × (field rs 2 x ≡ priceOf lv i)
+  row-order b i h =
+      let k : i < length ws = omega (arith, a .count) in
+      let x = some-of (nth ws i .queue) (busy-at ws i b k) in
+      (x .0, omega (arith, x .1, nth-times (x .0) ws i k), a .level i h .priced (x .0) (x .1) ∙ sym (a .level i h .price))
+
+  -- and each order's that of a row
+  pub order-row : (x : ℕ) → 1 ≤ times x (ups ws) → (i : ℕ) × (i < n) × (priceOf lv i ≡ field rs 2 x)
+  order-row x h =
+      let s = stands ws x h in
+      let k : s .at < n = omega (arith, s .below, a .count) in
+      (s .at, k, a .level (s .at) k .price ∙ sym (a .level (s .at) k .priced x (s .inside)))
+
+  module _ (fnd : ℕ → Bool) (s : Side) where
+    pub row-occupied : Busy ws → (i : ℕ) → i < n → occupied (priceOf lv i) (orders rs fnd (codes s ws)) ≡ true
+    row-occupied b i h =
+        let x = row-order b i h in
+        occupied-yes rs fnd (priceOf lv i) (codes s ws) (x .0) (omega (arith, x .1, codes-times s (x .0) ws)) (x .2)
+
+    pub new-price : (p : ℕ) → ((i : ℕ) → i < n → priceOf lv i ≢ p) → occupied p (orders rs fnd (codes s ws)) ≡ false
+    new-price p h = occupied-no rs fnd p (codes s ws) (λ x i e.
+        let r = order-row x (omega (arith, codes-times s x ws)) in h (r .0) (r .1) (r .2 ∙ e))
+
+    -- as many levels as rows
+    pub rows-levels : Busy ws → length (levels (orders rs fnd (codes s ws))) ≡ n
+    rows-levels b = levels-side rs fnd s ws (side-tiers a) b ∙ a .count
+
+    -- a price that is not too many has room
+    pub not-crowded : (z : Size) (p : ℕ) → Busy ws → length lv ≡ z .prices * 3 → crowded z (orders rs fnd (codes s ws)) (some p) ≡ false → RoomFor lv n p
+    not-crowded z p b l e h =
+        let o : occupied p (orders rs fnd (codes s ws)) ≡ false = new-price p h in
+        let k : leb (z .prices) (length (levels (orders rs fnd (codes s ws)))) ≡ false = rw o at e in
+        omega (arith, leb-false (z .prices) (length (levels (orders rs fnd (codes s ws)))) k, rows-levels b)
+
+  -- the head of a row is an order of its price
+  pub front-price : Busy ws → (i : ℕ) → i < n → field rs 2 (headOf lv i) ≡ priceOf lv i
+  front-price b i h =
+      let v = a .level i h in
+      first (nth ws i .queue) (v .ring) (busy-at ws i b (omega (arith, a .count))) (v .priced) ∙ sym (v .price)
+    where
+      first : (q : List ℕ) → Run (link rs 3 (headOf lv i)) (link rs 4 (tailOf lv i)) 0 q 0 → 1 ≤ length q → {p : ℕ} → ((x : ℕ) → 1 ≤ times x q → field rs 2 x ≡ p) → field rs 2 (headOf lv i) ≡ p
+      first [] r o k = absurd (let z : ⊥ = omega arith in z)
+      first (x ∷ q) r o k = ap (field rs 2) (r .0) ∙ k x (omega (arith, one-self x))
+
+-- ## The whole desk
+
+module _ {rs bd ak se : List ℕ} {r f nb na : ℕ} (w : Desk rs bd ak se r f nb na) where
+  abbrev kept : Book (Unit {0})
+  kept = deskBook rs bd ak se nb na
+
+  -- the counts are the book's
+  pub desk-resting : r ≡ length (kept .bids) + length (kept .asks)
+  desk-resting =
+      omega (
+        arith,
+        w .stored .rest,
+        orders-length rs (found se rs) (codes bid (levelsIn rs bd nb)),
+        orders-length rs (found se rs) (codes ask (levelsIn rs ak na)),
+        codes-length bid (levelsIn rs bd nb),
+        codes-length ask (levelsIn rs ak na),
+      )
+
+  pub desk-prices : (b : Bool) → length (levels (own (sideOf b) kept)) ≡ countOn b nb na
+  desk-prices true = rows-levels (w .stored .theirs) (found se rs) ask (w .busy-two)
+  desk-prices false = rows-levels (w .stored .mine) (found se rs) bid (w .busy)
+
+  -- the book is full exactly where every place is taken
+  module _ (z : Size) (p : ℕ) (l : Lengths z rs bd ak se) where
+    desk-full : full z kept (some p) ≡ leb (places rs) r
+    desk-full = let e : z .orders ≡ places rs = omega (arith, l .records) in rw e (ap (leb (places rs)) (sym desk-resting))
+
+    pub place-open : r < places rs → full z kept (some p) ≡ false
+    place-open h = desk-full ∙ lt-leb (places rs) r h
+
+    pub open-place : full z kept (some p) ≡ false → r < places rs
+    open-place e = leb-false (places rs) r (sym desk-full ∙ e)
+
+    pub all-taken : places rs ≤ r → full z kept (some p) ≡ true
+    all-taken h = desk-full ∙ le-leb (places rs) r h
+
+  -- the orders stand in their turns, and at most one is found under an id
+  pub desk-sorted : (s : Side) → Sorted s (own s kept)
+  desk-sorted bid = sorted-side rs (found se rs) bid (levelsIn rs bd nb) (side-tiers (w .stored .mine))
+  desk-sorted ask = sorted-side rs (found se rs) ask (levelsIn rs ak na) (side-tiers (w .stored .theirs))
+
+  pub desk-once : Once kept
+  desk-once i =
+      let c = lookup se rs i in
+      omega (
+        arith,
+        seen-most rs se i (codes bid (levelsIn rs bd nb)),
+        seen-most rs se i (codes ask (levelsIn rs ak na)),
+        codes-times bid c (levelsIn rs bd nb),
+        codes-times ask c (levelsIn rs ak na),
+        at-most-one (w .stored) c,
+      )
+
+  -- a price of a side's rows is occupied, and no other is
+  pub desk-occupied : (b : Bool) (i : ℕ) → i < countOn b nb na → occupied (priceOf (rowsOn b bd ak) i) (own (sideOf b) kept) ≡ true
+  desk-occupied true = row-occupied (w .stored .theirs) (found se rs) ask (w .busy-two)
+  desk-occupied false = row-occupied (w .stored .mine) (found se rs) bid (w .busy)
+
+  pub desk-new : (b : Bool) (p : ℕ) → ((i : ℕ) → i < countOn b nb na → priceOf (rowsOn b bd ak) i ≢ p) → occupied p (own (sideOf b) kept) ≡ false
+  desk-new true = new-price (w .stored .theirs) (found se rs) ask
+  desk-new false = new-price (w .stored .mine) (found se rs) bid
+
+  -- what refusal 5 lets pass has room
+  pub desk-room : (z : Size) (b : Bool) (p : ℕ) → Lengths z rs bd ak se → crowded z (own (sideOf b) kept) (some p) ≡ false → RoomOn b bd ak nb na p
+  desk-room z true p l = not-crowded (w .stored .theirs) (found se rs) ask z p (w .busy-two) (l .asks)
+  desk-room z false p l = not-crowded (w .stored .mine) (found se rs) bid z p (w .busy) (l .bids)
+
+  -- ## The front
+
+  -- the best order's code stands in the row at the front
+  pub desk-front : (b : Bool) → 1 ≤ countOn b nb na → On b (headOf (rowsOn b bd ak) (frontRow b (countOn b nb na))) (levelsIn rs bd nb) (levelsIn rs ak na)
+  desk-front true h =
+      let x = front-ask w h in
+      omega (arith, ap (times (headOf ak 0)) (x .1), one-self (headOf ak 0))
+  desk-front false h =
+      let x = front-bid w h in
+      let c = headOf bd (nb - 1) in
+      omega (arith, ap (times c) (x .1), one-self c, codes-times bid c (levelsIn rs bd nb))
+
+  -- and its price is the best
+  pub desk-best : (b : Bool) → 1 ≤ countOn b nb na → best (own (sideOf b) kept) ≡ some (priceOf (rowsOn b bd ak) (frontRow b (countOn b nb na)))
+  desk-best true h =
+      let x = front-ask w h in
+      let e : field rs 2 (headOf ak 0) ≡ priceOf ak 0 = front-price (w .stored .theirs) (w .busy-two) 0 h in
+      rw (x .1) (ap some e)
+  desk-best false h =
+      let x = front-bid w h in
+      let e : field rs 2 (headOf bd (nb - 1)) ≡ priceOf bd (nb - 1) = front-price (w .stored .mine) (w .busy) (nb - 1) (omega arith) in
+      rw (x .1) (ap some e)
+
+  pub desk-none : (b : Bool) → countOn b nb na ≡ 0 → own (sideOf b) kept ≡ []
+  desk-none true e = rw e
+  desk-none false e = rw e

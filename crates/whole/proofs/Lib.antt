@@ -1,0 +1,12 @@
+pub mod Queues
+pub mod Spare
+pub mod Lengths
+pub mod Table
+pub mod Levels
+pub mod Sides
+pub mod Counting
+pub mod Equal
+pub mod Verdict
+pub mod Orders
+pub mod Desk
+pub mod Join
