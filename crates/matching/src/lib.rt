@@ -47,11 +47,12 @@ fn give(records: &mut [u64], c: u64, t: Taker, fills: &mut [u64], p: Progress) -
     ensures { λ r. ⌜ Gives t c p (now (records .entry)) (now (fills .entry)) (now (records .exit)) (now (fills .exit)) r ⌝ }
 {
     let quantity = load(records, QUANTITY, c);
-    let maker = load(records, ID, c);
-    let price = load(records, PRICE, c);
+    let maker = Id(load(records, ID, c));
+    let price = Price(load(records, PRICE, c));
     let left = p.left.0;
     let i = p.fills;
     let given = smaller(quantity, left);
+    let qty = Quantity(given);
     let id = t.id;
     let side = t.side;
     put_fill(
@@ -59,21 +60,21 @@ fn give(records: &mut [u64], c: u64, t: Taker, fills: &mut [u64], p: Progress) -
         i,
         FillMetadata {
             order_1: id,
-            order_2: Id(maker),
-            qty: Quantity(given),
-            price: Price(price),
+            order_2: maker,
+            qty,
+            price,
             taker_side: side,
             total_fill: quantity <= left,
         },
     );
-    store(records, QUANTITY, c, quantity - given);
+    let kept = quantity - given;
+    store(records, QUANTITY, c, kept);
+    let rest = left - given;
+    let count = i + 1;
     Progress {
-        left: Quantity(left - given),
-        fills: i + 1,
-        last: Last {
-            price: Price(price),
-            qty: Quantity(given),
-        },
+        left: Quantity(rest),
+        fills: count,
+        last: Last { price, qty },
     }
 }
 

@@ -1,5 +1,4 @@
--- What the rule book makes of the statistics and a list of fills, case by case; the sums over a list of rows; and that the readings of statistics lose
--- nothing. Assumes nothing.
+-- Sums over fills, refusal 3 from capped sums, and the statistics after an order and after any list of rows. Assumes nothing.
 use Prim.Native.Nat.{ℕ, zero, suc, _+_, _-_, _*_, _≤_, _<_, min}
 use mathlib.Core.Path.{_≡_, refl, sym, ap, _∙_}
 use mathlib.Core.Bool.{Bool, true, false, _||_}
@@ -21,7 +20,7 @@ use Rattle.models.specs.declared.stats.Totals.{Totals}
 use Rattle.models.specs.Readings.{fillOf, tradeOf, statisticsOf}
 use Rattle.models.specs.Rows.{fillRow, places, rowAt, listed}
 use Rattle.models.specs.Sums.{capped}
-use Rattle.models.specs.Statistics.{totalsOf, withFill, tradeFor, overOf, Fits, fillsIn, Follows}
+use Rattle.models.specs.Statistics.{totalsOf, withFill, tradeFor, overOf, VolumeFits, fillsIn, Follows}
 use Rattle.models.proofs.Capped.{capped-small, capped-large, plus-capped}
 use Rattle.models.proofs.Places.{listed-length, listed-more}
 
@@ -131,17 +130,17 @@ module _ (st : Statistics) (l : List (Fill (Unit {0}))) where
             let v : st .volume .0 + total l ≤ most = ltb-false most (st .volume .0 + total l) (b .1) in
             (ltb-false most (worth l) (b .0), omega arith, λ h. v)
 
-    pub fits : Fits st (totalsOf l .quantity .sum)
+    pub volume-fits : VolumeFits st (totalsOf l .quantity .sum)
     unfolding totalsOf
-    fits on =
+    volume-fits on =
         let q : total l ≤ most = sums-fit on .1 in
         rw (capped-small (total l) q) (sums-fit on .2)
 
     -- the capped sums give what the fills give
-    pub after : (p q : ℕ) → lastPrice l ≡ p → lastQuantity l ≡ q
+    pub traded-after : (p q : ℕ) → lastPrice l ≡ p → lastQuantity l ≡ q
         → rule.traded (st .tracking) (totalsOf l .quantity .sum) (totalsOf l .worth .sum) p q (statisticsOf st) ≡ statsAfter l (statisticsOf st)
     unfolding totalsOf statsAfter
-    after p q e f = go (st .tracking) refl
+    traded-after p q e f = go (st .tracking) refl
       where
         go : (b : Bool) → st .tracking ≡ b → rule.traded (st .tracking) (totalsOf l .quantity .sum) (totalsOf l .worth .sum) p q (statisticsOf st) ≡ statsAfter l (statisticsOf st)
         go true on = rw (capped-small (worth l) (sums-fit on .0), capped-small (total l) (sums-fit on .1), e, f)
@@ -181,8 +180,8 @@ module _ (st : Statistics) (l : List ℕ) (count n : ℕ) (e : n ≡ min count (
       follows-new st (fillsIn l count) st (tested ∙ h) (sym (traded-none (st .tracking) _ _ _ _ (statisticsOf st) q))
 
   module _ (h : b ≡ false) where
-    pub ends-fits : Fits st (t .quantity .sum)
-    ends-fits = rw totals (fits st (fillsIn l count) (tested ∙ h))
+    pub ends-fits : VolumeFits st (t .quantity .sum)
+    ends-fits = rw totals (volume-fits st (fillsIn l count) (tested ∙ h))
 
     pub ends-new : (g : FillMetadata) (new : Statistics) → 0 < n → fillOf g ≡ rowAt fillRow l (n - 1)
         → statisticsOf new ≡ rule.traded (st .tracking) (t .quantity .sum) (t .worth .sum) (g .price .0) (g .qty .0) (statisticsOf st)
@@ -192,4 +191,4 @@ module _ (st : Statistics) (l : List ℕ) (count n : ℕ) (e : n ≡ min count (
         let v : fillsIn l count ≡ listed fillRow l (n - 1) ++ (rowAt fillRow l (n - 1) ∷ []) = counted ∙ ap (listed fillRow l) o ∙ listed-more fillRow l (n - 1) in
         let p : lastPrice (fillsIn l count) ≡ g .price .0 = ap lastPrice v ∙ last-price (listed fillRow l (n - 1)) (rowAt fillRow l (n - 1)) ∙ sym (ap (λ (x : Fill (Unit {0})). x .price) f) in
         let q : lastQuantity (fillsIn l count) ≡ g .qty .0 = ap lastQuantity v ∙ last-quantity (listed fillRow l (n - 1)) (rowAt fillRow l (n - 1)) ∙ sym (ap (λ (x : Fill (Unit {0})). x .quantity) f) in
-        follows-new st (fillsIn l count) new (tested ∙ h) (m ∙ rw totals (after st (fillsIn l count) (tested ∙ h) (g .price .0) (g .qty .0) p q))
+        follows-new st (fillsIn l count) new (tested ∙ h) (m ∙ rw totals (traded-after st (fillsIn l count) (tested ∙ h) (g .price .0) (g .qty .0) p q))

@@ -32,8 +32,8 @@ unfoldable pub overOf : Statistics → ℕ → Totals → Bool
 overOf st n t = st .tracking && (ltb 0 n && (t .worth .over || (plusOf (capped (st .volume .0)) (t .quantity)) .over))
 
 -- where tracking is on and there is something to add, the new volume fits
-abbrev pub Fits : Statistics → ℕ → Type 0
-Fits st q = st .tracking ≡ true → 0 < q → st .volume .0 + q ≤ rule.most
+abbrev pub VolumeFits : Statistics → ℕ → Type 0
+VolumeFits st q = st .tracking ≡ true → 0 < q → st .volume .0 + q ≤ rule.most
 
 -- ---- any list of fills
 
@@ -46,11 +46,11 @@ abbrev pub numberOf : rule.Recorded → ℕ
 numberOf (rule.Recorded.refused n) = n
 numberOf (rule.Recorded.recorded new) = 0
 
-abbrev pub standing : rule.Stats → rule.Recorded → rule.Stats
-standing old (rule.Recorded.refused n) = old
-standing old (rule.Recorded.recorded new) = new
+abbrev pub resulting : rule.Stats → rule.Recorded → rule.Stats
+resulting old (rule.Recorded.refused n) = old
+resulting old (rule.Recorded.recorded new) = new
 
 -- r is what the rule book makes of the statistics st and the fills l: 0 with the new statistics, or the number of the refusal with the old
 pub record Follows (st : Statistics) (l : List (rule.Fill (Unit {0}))) (r : Recorded) : Type 0 where
   pub code : r .code ≡ numberOf (rule.recording l (statisticsOf st))
-  pub statistics : statisticsOf (r .statistics) ≡ standing (statisticsOf st) (rule.recording l (statisticsOf st))
+  pub statistics : statisticsOf (r .statistics) ≡ resulting (statisticsOf st) (rule.recording l (statisticsOf st))

@@ -6,7 +6,7 @@ ghost use lib.ListN.{length};
 ghost use Rattle.rules.specs.Rules as rule;
 ghost use Rattle.models.specs.Readings.{statisticsOf, tradeOf};
 ghost use Rattle.models.specs.Rows.{fillRow, places, listed};
-ghost use Rattle.models.specs.Statistics.{totalsOf, withFill, tradeFor, overOf, Fits, fillsIn, Follows};
+ghost use Rattle.models.specs.Statistics.{totalsOf, withFill, tradeFor, overOf, VolumeFits, fillsIn, Follows};
 use crate::LastTrade;
 use crate::Price;
 use crate::Quantity;
@@ -138,7 +138,7 @@ impl Statistics {
         last_price: Price,
         last_qty: Quantity,
     ) -> Statistics
-        requires { ⌜ Fits self (qty .0) ⌝ }
+        requires { ⌜ VolumeFits self (qty .0) ⌝ }
         ensures { λ r. ⌜ statisticsOf r ≡ rule.traded (self .tracking) (qty .0) worth («last_price» .0) («last_qty» .0) (statisticsOf self) ⌝ }
     {
         let tracking = self.tracking;

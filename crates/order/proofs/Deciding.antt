@@ -5,14 +5,15 @@ use mathlib.Core.Path.{_≡_, refl, sym, ap, _∙_}
 use mathlib.Core.Bool.{Bool, true, false, not, _&&_, _||_, and-false}
 use mathlib.Core.Option.{Option, none, some}
 use lib.Dec.{leb, ltb}
-use native.Mathlib.Decide.{decLt}
 use borrow.Author.Tests.{lt-ltb, le-ltb, ltb-true, ltb-false}
 use Rattle.rules.specs.Rules as rule
 use Rattle.rules.specs.Rules.{firstOf}
 use Rattle.models.specs.declared.Statistics.{Statistics}
+use Rattle.models.specs.declared.stats.Totals.{Totals}
+use Rattle.models.specs.Statistics.{overOf}
 use Rattle.survey.specs.declared.Taker.{Taker}
 use Rattle.survey.specs.declared.Outlook.{Outlook}
-use Rattle.order.specs.Decided.{numberOf, filled, remains, passes, decided, nothingFilled, eventBy}
+use Rattle.order.specs.Decided.{numberOf, filled, remains, totalsBy, passes, decided, nothingFilled, eventBy}
 
 pub remains-none : (any : Bool) (r : ℕ) → r ≡ 0 → remains any r ≡ false
 remains-none any r e = rw e
@@ -21,32 +22,7 @@ pub remains-some : (any : Bool) (r : ℕ) → (r ≡ 0 → ⊥) → remains any 
 remains-some any zero h = absurd (h refl)
 remains-some any (suc r) h = refl
 
--- a sum tested without leaving the range
-pub past : (m q v : ℕ) → q ≤ m → ltb (m - q) v ≡ ltb m (v + q)
-past m q v h = go (decLt (m - q) v)
-  where
-    go : Dec (m - q < v) → ltb (m - q) v ≡ ltb m (v + q)
-    go (yes a) = lt-ltb (m - q) v a ∙ sym (lt-ltb m (v + q) (omega arith))
-    go (no a) = le-ltb (m - q) v (omega arith) ∙ sym (le-ltb m (v + q) (omega arith))
-
 module _ (t : Taker) (s : Outlook) (st : Statistics) where
-  pub passes-off : st .tracking ≡ false → passes t s st ≡ false
-  unfolding passes
-  passes-off e = rw e
-
-  pub passes-idle : s .fills ≡ 0 → passes t s st ≡ false
-  unfolding passes
-  passes-idle e = rw e (and-false (st .tracking))
-
-  pub passes-over : st .tracking ≡ true → (s .fills ≡ 0 → ⊥) → s .worth .over ≡ true → passes t s st ≡ true
-  unfolding passes
-  passes-over e f g = rw (e, lt-ltb 0 (s .fills) (omega arith), g)
-
-  pub passes-sum : st .tracking ≡ true → (s .fills ≡ 0 → ⊥) → s .worth .over ≡ false → t .qty .0 ≤ rule.most
-      → ltb (rule.most - filled t s) (st .volume .0) ≡ passes t s st
-  unfolding passes
-  passes-sum e f g h = past rule.most (filled t s) (st .volume .0) (omega arith) ∙ sym (rw (e, lt-ltb 0 (s .fills) (omega arith), g))
-
   module _ (n : ℕ) (r u c : Bool) where
     pub decided-room : n < s .fills → numberOf (decided n t s st r u c) ≡ 2
     unfolding decided firstOf
@@ -83,3 +59,7 @@ pub event-part : (t : Taker) (n r q : ℕ) → (n ≡ 0 → ⊥) → (r ≡ 0 �
 event-part t zero r q h e = absurd (h refl)
 event-part t (suc n) zero q h e = absurd (e refl)
 event-part t (suc n) (suc r) q h e = refl
+
+-- what the statistics say of the totals is refusal 3
+pub says : (t : Taker) (s : Outlook) (st : Statistics) (b : Bool) {x : Totals} {c : Bool} → x ≡ totalsBy t s → c ≡ overOf st (s .fills) x → c ≡ b → passes t s st ≡ b
+says t s st b e f g = sym (f ∙ ap (overOf st (s .fills)) e) ∙ g

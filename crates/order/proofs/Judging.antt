@@ -14,25 +14,13 @@ use Rattle.rules.specs.Rules.{Order, Fill, Outcome, Desk, Book, Size, outcome, 
 use Rattle.rules.proofs.Turns.{outcome-gains}
 use Rattle.models.specs.declared.Statistics.{Statistics}
 use Rattle.models.specs.Readings.{statisticsOf, sideOf}
-use Rattle.models.specs.Sums.{capped, passed}
-use Rattle.models.specs.declared.sums.Sum.{Sum}
+use Rattle.models.specs.Statistics.{overOf, totalsOf}
+use Rattle.models.proofs.Recording.{too-large-is}
 use Rattle.survey.specs.declared.Taker.{Taker}
 use Rattle.survey.specs.declared.Outlook.{Outlook}
 use Rattle.survey.specs.Taker.{takerOf, kindOf}
 use Rattle.survey.specs.Surveyed.{surveyed}
-use Rattle.order.specs.Decided.{filled, remains, passes, decided, nothingFilled, eventBy}
-
-some-length : {X : Type 0} (l : List X) → some? l ≡ ltb 0 (length l)
-some-length [] = refl
-some-length (x ∷ l) = sym (lt-ltb 0 (length (x ∷ l)) (omega arith))
-
-over-is : (n : ℕ) → (capped n) .over ≡ ltb most n
-unfolding capped
-over-is n = go (decLt most n)
-  where
-    go : Dec (most < n) → (cond {A = Sum} (leb n most) (record { over = false; sum = n }) passed) .over ≡ ltb most n
-    go (yes a) = rw (lt-leb n most a, lt-ltb most n a)
-    go (no a) = rw (le-leb n most (omega arith), le-ltb most n (omega arith))
+use Rattle.order.specs.Decided.{filled, remains, totalsBy, passes, decided, nothingFilled, eventBy}
 
 full-is : (z : Size) (b : Book (Unit {0})) (any : Bool) (p r : ℕ) → full z b (standing (kindOf any p) r) ≡ remains any r && leb (z .orders) (length (b .bids) + length (b .asks))
 full-is z b true p zero = refl
@@ -58,9 +46,12 @@ module _ (room : ℕ) (t : Taker) (l : List (Order (Unit {0}))) where
   pub left-within : (surveyed o) .left .0 ≤ t .qty .0
   left-within = omega (arith, outcome-gains (takerOf room t) l)
 
-  passes-is : (st : Statistics) → tooLarge (o .fills) (statisticsOf st) ≡ passes t (surveyed o) st
-  unfolding tooLarge passes
-  passes-is st = rw (some-length (o .fills), over-is (worth (o .fills)), filled-total)
+  pub totals-are : totalsOf (o .fills) ≡ totalsBy t (surveyed o)
+  unfolding totalsOf
+  totals-are = rw filled-total
+
+  pub passes-is : (st : Statistics) → tooLarge (o .fills) (statisticsOf st) ≡ passes t (surveyed o) st
+  passes-is st = sym (too-large-is st (o .fills)) ∙ ap (overOf st (length (o .fills))) totals-are
 
   pub event-is : event (kindOf (t .any) (t .limit .0)) (t .id .0) (o .fills) (o .rest) ≡ eventBy t (length (o .fills)) (o .rest) (filled t (surveyed o))
   event-is = go (o .fills) (o .rest) filled-total

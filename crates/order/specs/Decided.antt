@@ -6,6 +6,9 @@ use mathlib.Core.Option.{Option, none, some}
 use lib.Dec.{leb, ltb}
 use Rattle.rules.specs.Rules as rule
 use Rattle.models.specs.declared.Statistics.{Statistics}
+use Rattle.models.specs.declared.stats.Totals.{Totals}
+use Rattle.models.specs.Statistics.{overOf}
+use Rattle.models.specs.Sums.{capped}
 use Rattle.survey.specs.declared.Taker.{Taker}
 use Rattle.survey.specs.declared.Outlook.{Outlook}
 use Rattle.survey.specs.Taker.{kindOf}
@@ -24,9 +27,13 @@ abbrev pub remains : Bool → ℕ → Bool
 remains any zero = false
 remains any (suc r) = not any
 
+-- the totals of its fills
+abbrev pub totalsBy : Taker → Outlook → Totals
+totalsBy t s = record { worth = s .worth; quantity = capped (filled t s) }
+
 -- refusal 3
-unfoldable pub passes : Taker → Outlook → Statistics → Bool
-passes t s st = st .tracking && (ltb 0 (s .fills) && (s .worth .over || ltb rule.most (st .volume .0 + filled t s)))
+abbrev pub passes : Taker → Outlook → Statistics → Bool
+passes t s st = overOf st (s .fills) (totalsBy t s)
 
 -- the tests in their order: there are so many places for fills; `rests`: a remainder would rest; `full`: all places for orders are taken;
 -- `crowded`: the price is new to its side, which has no row left

@@ -2,10 +2,12 @@
 ghost use mathlib.Core.Path.{_≡_};
 ghost use Prim.Native.Nat.{_≤_};
 ghost use Rattle.models.specs.Readings.{eventOf};
-ghost use Rattle.order.specs.Decided.{numberOf, filled, remains, passes, decided, eventBy};
+ghost use Rattle.order.specs.Decided.{numberOf, filled, remains, totalsBy, decided, eventBy};
 use models::OrderEvent;
 use models::Quantity;
 use models::Statistics;
+use models::stats::Totals;
+use models::sums::exact;
 use survey::Outlook;
 use survey::Taker;
 
@@ -20,8 +22,6 @@ pub const NO_ORDER_LEFT: u64 = 4;
 
 pub const NO_PRICE_LEFT: u64 = 5;
 
-const MOST: u64 = 18446744073709551615;
-
 // Whether a remainder would rest.
 pub fn rests(t: Taker, s: Outlook) -> bool
     ensures { λ r. ⌜ r ≡ remains (t .any) (s .left .0) ⌝ }
@@ -32,21 +32,14 @@ pub fn rests(t: Taker, s: Outlook) -> bool
     !t.any
 }
 
-// Whether the sum of price times quantity, or the new volume, is too large.
-fn too_large(t: Taker, s: Outlook, statistics: Statistics) -> bool
+// The totals of its fills.
+pub fn totals(t: Taker, s: Outlook) -> Totals
     requires { ⌜ s .left .0 ≤ t .qty .0 ⌝ }
-    ensures { λ r. ⌜ r ≡ passes t s statistics ⌝ }
+    ensures { λ r. ⌜ r ≡ totalsBy t s ⌝ }
 {
-    if !statistics.tracking {
-        return false;
-    }
-    if s.fills == 0 {
-        return false;
-    }
-    if s.worth.over {
-        return true;
-    }
-    MOST - (t.qty.0 - s.left.0) < statistics.volume.0
+    let worth = s.worth;
+    let quantity = exact(t.qty.0 - s.left.0);
+    Totals { worth, quantity }
 }
 
 // The number of the lowest refusal that applies, or 0.
@@ -65,7 +58,8 @@ pub fn refusal(
     if places < s.fills {
         return FILLS_OUTNUMBER_PLACES;
     }
-    if too_large(t, s, statistics) {
+    let totals = totals(t, s);
+    if statistics.too_large(s.fills, totals) {
         return SUM_TOO_LARGE;
     }
     if !rests {

@@ -248,6 +248,10 @@ module _ {A : Type 0} where
   unfolding outcome
   outcome-thin t l = thin-left t (t .quantity) l
 
+  -- no more makers are left than there were
+  pub outcome-fewer : (t : Taker A) (l : List (Order A)) → length ((outcome t l) .left) ≤ length l
+  outcome-fewer t l = thin-length (outcome-thin t l)
+
   -- ---- a new order
 
   place-length : (s : Side) (o : Order A) (l : List (Order A)) → length (place s o l) ≡ suc (length l)

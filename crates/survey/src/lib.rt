@@ -74,19 +74,21 @@ fn meet(records: &[u64], c: u64, s: Outlook) -> Outlook
     let price = Price(load(records, PRICE, c));
     let left = s.left.0;
     let worth = s.worth;
+    let fills = s.fills + 1;
     if quantity <= left {
+        let used = s.used + 1;
         let sum = plus(worth, product(price, Quantity(quantity)));
         return Outlook {
             left: Quantity(left - quantity),
-            fills: s.fills + 1,
-            used: s.used + 1,
+            fills,
+            used,
             worth: sum,
         };
     }
     let sum = plus(worth, product(price, Quantity(left)));
     Outlook {
         left: Quantity(0),
-        fills: s.fills + 1,
+        fills,
         used: s.used,
         worth: sum,
     }

@@ -8,8 +8,10 @@ use lib.ListN.{drop, length}
 use Rattle.rules.specs.Rules.{Book, Order, Side, ask, bid, book, lastPrice, lastQuantity, opposite, outcome, own}
 use Rattle.rules.specs.Whole.{Whole}
 use Rattle.rules.proofs.Basics.{opposite-twice, own-book}
+use Rattle.records.specs.Rows as rows
 use Rattle.records.specs.Rows.{field}
 use Rattle.search.specs.Seek.{lookup}
+use Rattle.models.specs.declared.Side as models
 use Rattle.models.specs.Readings.{sideOf}
 use Rattle.models.specs.Rows.{fillRow, places, written}
 use Rattle.side.specs.Levels.{Lvl}
@@ -71,14 +73,14 @@ module _ {n : ℕ} {rs lv ov se : List ℕ} {s t f r : ℕ} {ws vs : List Lvl} {
 -- ## From a side
 
 -- of what belongs to the bids and to the asks, that of side sd
-abbrev pub of {ℓ} : {X : Type ℓ} → Side → X → X → X
+abbrev of {ℓ} : {X : Type ℓ} → Side → X → X → X
 of bid x y = x
 of ask x y = y
 
 -- the desk as a ledger whose first side is sd, and back
 abbrev From : Side → List ℕ → List ℕ → List ℕ → List ℕ → List ℕ → ℕ → ℕ → ℕ → ℕ → Type 0
 From sd rs js bd ak se r f nb na =
-    Ledger (Rattle.records.specs.Rows.places rs) js (of sd bd ak) (of (opposite sd) bd ak) se (of sd nb na) (of (opposite sd) nb na) f r
+    Ledger (rows.places rs) js (of sd bd ak) (of (opposite sd) bd ak) se (of sd nb na) (of (opposite sd) nb na) f r
     (levelsIn rs (of sd bd ak) (of sd nb na)) (levelsIn rs (of (opposite sd) bd ak) (of (opposite sd) nb na)) (freeIn rs f)
 
 view : {rs bd ak se : List ℕ} {r f nb na : ℕ} (sd : Side) → Desk rs bd ak se r f nb na → From sd rs rs bd ak se r f nb na
@@ -141,27 +143,30 @@ module _ {rs bd ak se : List ℕ} {r f nb na : ℕ} (w : Desk rs bd ak se r f nb
           ∙ (ap (λ (x : List (Order (Unit {0}))). book sd x (own (opposite sd) k)) (used-are t (own sd k) (h .sorted sd) (h .positive sd) .0)
           ∙ ap (λ (x : Side). book sd ((comes room u k) .left) (own x k)) (opposite-twice (sideOf (u .side))))))) m
 
--- ## As the code asks it, on the side s
+-- ## As the code asks it, where x is the order's side
 
-module _ {u : Taker} {n : ℕ} {rs bd ak se out : List ℕ} {b : OrderBook} (m : CanTrade u n rs bd ak se out b) (s : Side) (e : metSide u ≡ s) where
-  pub trade-carry : CanCarry u rs (of s bd ak) (of s (b .bids) (b .asks)) out
-  trade-carry = rw e at (can-carry (m .desk) u (m .whole) {out = out} (m .room))
+met-is : (u : Taker) {x : models.Side} → u .side ≡ x → metSide u ≡ opposite (sideOf x)
+met-is u e = ap (λ (y : models.Side). opposite (sideOf y)) e
 
-  module _ {rs′ out′ : List ℕ} {l : Last} (c : Carries u rs (of s bd ak) (of s (b .bids) (b .asks)) out rs′ out′ l) where
+module _ {u : Taker} {n : ℕ} {rs bd ak se out : List ℕ} {b : OrderBook} (m : CanTrade u n rs bd ak se out b) {x : models.Side} (e : u .side ≡ x) where
+  pub trade-carry : CanCarry u rs (of (opposite (sideOf x)) bd ak) (of (opposite (sideOf x)) (b .bids) (b .asks)) out
+  trade-carry = rw (met-is u e) at (can-carry (m .desk) u (m .whole) {out = out} (m .room))
+
+  module _ {rs′ out′ : List ℕ} {l : Last} (c : Carries u rs (of (opposite (sideOf x)) bd ak) (of (opposite (sideOf x)) (b .bids) (b .asks)) out rs′ out′ l) where
     there : Carries u rs (of (metSide u) bd ak) (of (metSide u) (b .bids) (b .asks)) out rs′ out′ l
-    there = rw e c
+    there = rw (met-is u e) c
 
-    pub trade-sweep : Desk rs′ bd ak se (b .resting) (b .free) (b .bids) (b .asks) × (n ≤ length (own s (deskBook rs′ bd ak se (b .bids) (b .asks))))
-    trade-sweep = (carried (m .desk) u (m .whole) there 0 .desk, rw e at (can-sweep (m .desk) u (m .whole) there (m .used)))
+    pub trade-sweep : Desk rs′ bd ak se (b .resting) (b .free) (b .bids) (b .asks) × (n ≤ length (own (opposite (sideOf x)) (deskBook rs′ bd ak se (b .bids) (b .asks))))
+    trade-sweep = (carried (m .desk) u (m .whole) there 0 .desk, rw (met-is u e) at (can-sweep (m .desk) u (m .whole) there (m .used)))
 
     fills-are : (room : ℕ) → fillsIn u rs (of (metSide u) bd ak) (of (metSide u) (b .bids) (b .asks)) room (found se rs) ≡ (comes room u (deskBook rs bd ak se (b .bids) (b .asks))) .fills
     fills-are room = ap (λ (x : List (Order (Unit {0}))). (outcome (takerOf room u) x) .fills) (sym (own-is (metSide u) rs bd ak se (b .bids) (b .asks)))
 
     pub trades : {rs″ bd′ ak′ se′ : List ℕ} {b′ : OrderBook}
-        → Leaves (swept s n (deskBook rs′ bd ak se (b .bids) (b .asks))) rs″ bd′ ak′ se′ (b′ .resting) (b′ .free) (b′ .bids) (b′ .asks)
+        → Leaves (swept (opposite (sideOf x)) n (deskBook rs′ bd ak se (b .bids) (b .asks))) rs″ bd′ ak′ se′ (b′ .resting) (b′ .free) (b′ .bids) (b′ .asks)
         → Trades u (deskBook rs bd ak se (b .bids) (b .asks)) out rs″ bd′ ak′ se′ out′ (record { book = b′; last = l })
     trades v = record {
-      book = swept-leaves (m .desk) u (m .whole) there (m .used) (rw e v);
+      book = swept-leaves (m .desk) u (m .whole) there (m .used) (rw (met-is u e) v);
       fills = λ room. there .fills room (found se rs) ∙ ap (written fillRow out 0) (fills-are room);
       price = λ room. there .price room (found se rs) ∙ ap lastPrice (fills-are room);
       quantity = λ room. there .quantity room (found se rs) ∙ ap lastQuantity (fills-are room);

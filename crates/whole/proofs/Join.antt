@@ -73,6 +73,12 @@ module _ {z : Size} {b : OrderBook} {rs bd ak se : List ℕ} (w : Whole z b rs b
         omega (arith, times-append (lookup se rs x) bc ac);
   }
 
+  -- what the search finds under an id rests, and has that id
+  pub whole-found : (x : ℕ) → lookup se rs x ≢ 0 → (1 ≤ times (lookup se rs x) (restingIn b rs bd ak)) × (field rs 0 (lookup se rs x) ≡ x)
+  whole-found x n =
+      let h = whole-desk .held x n in
+      (omega (arith, times-append (lookup se rs x) bc ac), held se rs x (omega (arith, w .lengths .search, w .lengths .some)) n .1)
+
   -- a resting order is a record and has something; so has the one at the front of a side
   pub whole-order : (c : ℕ) → 1 ≤ times c bc + times c ac → Row rs c × (1 ≤ field rs 1 c)
   whole-order c h =
@@ -183,6 +189,11 @@ module _ {z : Size} {b : OrderBook} {rs bd ak se : List ℕ} (l : Lengths z rs b
         only = sound se rs (d .good) .one;
         near = sound se rs (d .good) .near;
       }
+
+-- a door keeps every length
+pub lengths-kept : {z : Size} {rs bd ak se : List ℕ} (rs′ bd′ ak′ se′ : List ℕ) → length rs′ ≡ length rs → length bd′ ≡ length bd → length ak′ ≡ length ak → length se′ ≡ length se
+    → Lengths z rs bd ak se → Lengths z rs′ bd′ ak′ se′
+lengths-kept rs′ bd′ ak′ se′ r x y s l = record { some = l .some; records = r ∙ l .records; bids = x ∙ l .bids; asks = y ∙ l .asks; search = s ∙ l .search }
 
 -- what a door leaves, of a book that the rules keep whole
 pub leaves-whole : {z : Size} {b : OrderBook} {rs bd ak se : List ℕ} {k : Book (Unit {0})} → Lengths z rs bd ak se → Leaves k rs bd ak se (b .resting) (b .free) (b .bids) (b .asks) → WholeBook z k → Whole z b rs bd ak se

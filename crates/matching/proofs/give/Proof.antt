@@ -19,17 +19,17 @@ smaller-requires c κs = search needs
 put-fill-requires : tie.Need-put-fill-requires
 put-fill-requires c κs = search needs
 
-sub-store : tie.Need-sub-store
-sub-store c = search needs
+sub-kept : tie.Need-sub-kept
+sub-kept c = search needs
 
 store-requires : tie.Need-store-requires
 store-requires c κs = search needs
 
-sub-t30 : tie.Need-sub-t30
-sub-t30 c = search needs
+sub-rest : tie.Need-sub-rest
+sub-rest c = search needs
 
-add-t31 : tie.Need-add-t31
-add-t31 c = search needs
+add-count : tie.Need-add-count
+add-count c = search needs
 
 same-length : tie.Need-same-length
 same-length c = search needs
@@ -49,10 +49,10 @@ give-spec =
     load-requires-3
     smaller-requires
     put-fill-requires
-    sub-store
+    sub-kept
     store-requires
-    sub-t30
-    add-t31
+    sub-rest
+    add-count
     same-length
     same-length-2
     returns)

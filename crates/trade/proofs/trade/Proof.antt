@@ -1,8 +1,4 @@
 -- `trade` is `carry_out` and then `sweep`, on the side that the order meets. Assumes nothing.
-use mathlib.Core.Path.{ap}
-use Rattle.rules.specs.Rules as rule
-use Rattle.models.specs.declared.Side as models
-use Rattle.models.specs.Readings.{sideOf}
 use Rattle.trade.proofs.Trading.{trade-carry, trade-sweep, trades}
 use borrow.Author.Needs.{needs}
 use Rattle.trade.proofs.trade.Statement.{statement}
@@ -12,19 +8,19 @@ enum-told : tie.Need-enum-told
 enum-told c = search needs
 
 carry-out-requires : tie.Need-carry-out-requires
-carry-out-requires c κs = trade-carry (c .before .before .before .before .before .before .before .before .before .before .pre) rule.ask (ap (λ (x : models.Side). rule.opposite (sideOf x)) (c .before .before .before .enum-told .given .1))
+carry-out-requires c κs = trade-carry (c .before .before .before .before .before .before .before .before .before .before .pre) (c .before .before .before .enum-told .given .1)
 
 sweep-requires : tie.Need-sweep-requires
-sweep-requires c κs = trade-sweep (c .before .before .before .before .before .before .before .before .before .before .before .before .before .before .before .before .before .before .before .pre) rule.ask (ap (λ (x : models.Side). rule.opposite (sideOf x)) (c .before .before .before .before .before .before .before .before .before .before .before .before .enum-told .given .1)) (c .before .before .before .before .before .before .before .before .carry-out .ensures)
+sweep-requires c κs = trade-sweep (c .before .before .before .before .before .before .before .before .before .before .before .before .before .before .before .before .before .before .before .pre) (c .before .before .before .before .before .before .before .before .before .before .before .before .enum-told .given .1) (c .before .before .before .before .before .before .before .before .carry-out .ensures)
 
 enum-told-2 : tie.Need-enum-told-2
 enum-told-2 c = search needs
 
 carry-out-requires-2 : tie.Need-carry-out-requires-2
-carry-out-requires-2 c κs = trade-carry (c .before .before .before .before .before .before .before .before .before .before .pre) rule.bid (ap (λ (x : models.Side). rule.opposite (sideOf x)) (c .before .before .before .enum-told2 .given .1))
+carry-out-requires-2 c κs = trade-carry (c .before .before .before .before .before .before .before .before .before .before .pre) (c .before .before .before .enum-told2 .given .1)
 
 sweep-requires-2 : tie.Need-sweep-requires-2
-sweep-requires-2 c κs = trade-sweep (c .before .before .before .before .before .before .before .before .before .before .before .before .before .before .before .before .before .before .before .pre) rule.bid (ap (λ (x : models.Side). rule.opposite (sideOf x)) (c .before .before .before .before .before .before .before .before .before .before .before .before .enum-told2 .given .1)) (c .before .before .before .before .before .before .before .before .carry-out2 .ensures)
+sweep-requires-2 c κs = trade-sweep (c .before .before .before .before .before .before .before .before .before .before .before .before .before .before .before .before .before .before .before .pre) (c .before .before .before .before .before .before .before .before .before .before .before .before .enum-told2 .given .1) (c .before .before .before .before .before .before .before .before .carry-out2 .ensures)
 
 same-length : tie.Need-same-length
 same-length c = search needs
@@ -42,7 +38,7 @@ same-length-5 : tie.Need-same-length-5
 same-length-5 c = search needs
 
 returns : tie.Need-returns
-returns c = trades (c .before .before .before .before .before .before .before .before .before .before .before .before .before .before .before .before .before .before .before .before .before .before .before .before .before .before .before .before .pre) rule.ask (ap (λ (x : models.Side). rule.opposite (sideOf x)) (c .before .before .before .before .before .before .before .before .before .before .before .before .before .before .before .before .before .before .before .before .before .enum-told .given .1)) (c .before .before .before .before .before .before .before .before .before .before .before .before .before .before .before .before .before .carry-out .ensures) (c .before .before .before .before .before .before .before .before .sweep .ensures)
+returns c = trades (c .before .before .before .before .before .before .before .before .before .before .before .before .before .before .before .before .before .before .before .before .before .before .before .before .before .before .before .before .pre) (c .before .before .before .before .before .before .before .before .before .before .before .before .before .before .before .before .before .before .before .before .before .enum-told .given .1) (c .before .before .before .before .before .before .before .before .before .before .before .before .before .before .before .before .before .carry-out .ensures) (c .before .before .before .before .before .before .before .before .sweep .ensures)
 
 same-length-6 : tie.Need-same-length-6
 same-length-6 c = search needs
@@ -60,7 +56,7 @@ same-length-10 : tie.Need-same-length-10
 same-length-10 c = search needs
 
 returns-2 : tie.Need-returns-2
-returns-2 c = trades (c .before .before .before .before .before .before .before .before .before .before .before .before .before .before .before .before .before .before .before .before .before .before .before .before .before .before .before .before .pre) rule.bid (ap (λ (x : models.Side). rule.opposite (sideOf x)) (c .before .before .before .before .before .before .before .before .before .before .before .before .before .before .before .before .before .before .before .before .before .enum-told2 .given .1)) (c .before .before .before .before .before .before .before .before .before .before .before .before .before .before .before .before .before .carry-out2 .ensures) (c .before .before .before .before .before .before .before .before .sweep2 .ensures)
+returns-2 c = trades (c .before .before .before .before .before .before .before .before .before .before .before .before .before .before .before .before .before .before .before .before .before .before .before .before .before .before .before .before .pre) (c .before .before .before .before .before .before .before .before .before .before .before .before .before .before .before .before .before .before .before .before .before .enum-told2 .given .1) (c .before .before .before .before .before .before .before .before .before .before .before .before .before .before .before .before .before .carry-out2 .ensures) (c .before .before .before .before .before .before .before .before .sweep2 .ensures)
 
 pub trade-spec : {M : Type 1} → statement M
 trade-spec =

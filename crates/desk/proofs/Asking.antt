@@ -1,0 +1,103 @@
+-- What a sound stock gives the steps of an order. Assumes nothing.
+use Prim.Native.Nat.{ℕ, zero, suc, _+_, _*_, _-_, _≤_, _<_}
+use native.Mathlib.Omega.{arith}
+use mathlib.Core.Path.{_≡_, refl, sym, ap, _∙_, subst}
+use mathlib.Core.Bool.{Bool, true, false, not, _&&_, and-false, and-true}
+use mathlib.Core.List.{List, [], _∷_}
+use lib.Dec.{leb}
+use lib.ListN.{length}
+use borrow.Author.Tests.{le-leb, lt-leb}
+use Rattle.rules.specs.Rules as rule
+use Rattle.rules.specs.Whole.{WholeBook}
+use Rattle.rules.proofs.Bounds.{whole-book-after}
+use Rattle.models.specs.declared.Id.{Id}
+use Rattle.models.specs.declared.Statistics.{Statistics}
+use Rattle.models.specs.declared.OrderEvent.the-variants.{Canceled}
+use Rattle.models.specs.Readings.{sideOf, statisticsOf}
+use Rattle.models.specs.Rows.{fillRow, written}
+use Rattle.models.proofs.Places.{written-none, fill-faithful}
+use Rattle.side.proofs.Stored.{swapped}
+use Rattle.side.specs.Read.{levelsIn}
+use Rattle.ledger.specs.declared.OrderBook.{OrderBook}
+use Rattle.ledger.specs.Desk.{Desk, Leaves, deskBook, found}
+use Rattle.ledger.specs.Doors.{ApartAt}
+use Rattle.ledger.proofs.Apart.{apart-at}
+use Rattle.depth.specs.Sides.{Standing, ordersIn}
+use Rattle.depth.proofs.Levels.{levels-count}
+use Rattle.models.specs.declared.Side.{Side}
+use Rattle.models.specs.declared.Side.the-variants.{Bid, Ask}
+use Rattle.survey.specs.declared.Outlook.{Outlook}
+use Rattle.survey.specs.declared.Taker.{Taker}
+use Rattle.survey.specs.Makers.{ordersIn as makersIn}
+use Rattle.survey.specs.Surveyed.{surveyed}
+use Rattle.survey.specs.Taker.{takerOf, metSide}
+use Rattle.survey.proofs.Able.{can-match}
+use Rattle.whole.specs.Whole.{Lengths}
+use Rattle.desk.specs.declared.Answer.the-variants.{Done}
+use Rattle.desk.specs.Stock.{Stock, Sound, bookIn, deskIn}
+use Rattle.desk.specs.Performs.{Performs, carried}
+use Rattle.desk.specs.Steps.{Matchable, Foretells, noRow, Held, Withdraws}
+
+pub sound-matchable : {z : rule.Size} {k : Stock} → Sound z k → Matchable (k .book) (k .records) (k .bids) (k .asks)
+sound-matchable {z} {k} w =
+    record {
+      bids = can-match (w .desk .stored) rule.bid (found (k .search) (k .records)) (w .orderly .orderly .positive rule.bid);
+      asks = can-match (swapped (w .desk .stored)) rule.ask (found (k .search) (k .records)) (w .orderly .orderly .positive rule.ask);
+    }
+
+-- the makers' side, by the side of the order
+module _ (t : Taker) (b : OrderBook) (rs bd ak : List ℕ) {s : Outlook} where
+  pub foretells-bid : t .side ≡ Bid → ((room : ℕ) (fnd : ℕ → Bool) → s ≡ surveyed (rule.outcome (takerOf room t) (makersIn (metSide t) rs fnd ak (b .asks)))) → Foretells t b rs bd ak s
+  foretells-bid e h room se =
+      h room (found se rs)
+      ∙ ap (λ (l : List (rule.Order (Unit {0}))). surveyed (rule.outcome (takerOf room t) l))
+      (ap (λ (v : Side). makersIn (rule.opposite (sideOf v)) rs (found se rs) ak (b .asks)) e
+      ∙ sym (ap (λ (v : Side). rule.own (rule.opposite (sideOf v)) (deskBook rs bd ak se (b .bids) (b .asks))) e))
+
+  pub foretells-ask : t .side ≡ Ask → ((room : ℕ) (fnd : ℕ → Bool) → s ≡ surveyed (rule.outcome (takerOf room t) (makersIn (metSide t) rs fnd bd (b .bids)))) → Foretells t b rs bd ak s
+  foretells-ask e h room se =
+      h room (found se rs)
+      ∙ ap (λ (l : List (rule.Order (Unit {0}))). surveyed (rule.outcome (takerOf room t) l))
+      (ap (λ (v : Side). makersIn (rule.opposite (sideOf v)) rs (found se rs) bd (b .bids)) e
+      ∙ sym (ap (λ (v : Side). rule.own (rule.opposite (sideOf v)) (deskBook rs bd ak se (b .bids) (b .asks))) e))
+
+-- ## a price without a row
+
+module _ (most p : ℕ) {rs lv : List ℕ} {n : ℕ} (sd : rule.Side) (fnd : ℕ → Bool) (s : Standing rs lv n) where
+  pub row-left : n < most → false ≡ noRow most p (ordersIn sd fnd rs lv n)
+  row-left h = sym (rw (levels-count s sd fnd, lt-leb most n h) (and-false (not (rule.occupied p (ordersIn sd fnd rs lv n)))))
+
+  pub row-none : {r : Bool} → most ≤ n → r ≡ not (rule.occupied p (ordersIn sd fnd rs lv n)) → r ≡ noRow most p (ordersIn sd fnd rs lv n)
+  row-none h e = e ∙ sym (rw (levels-count s sd fnd, le-leb most n h) (and-true (not (rule.occupied p (ordersIn sd fnd rs lv n)))))
+
+-- ## lengths that stay
+
+pub lengths-stay : {z : rule.Size} {rs bd ak se rs′ bd′ ak′ se′ : List ℕ} → length rs′ ≡ length rs → length bd′ ≡ length bd → length ak′ ≡ length ak → length se′ ≡ length se
+    → Lengths z rs bd ak se → Lengths z rs′ bd′ ak′ se′
+lengths-stay a b c d l = record { some = l .some; records = a ∙ l .records; bids = b ∙ l .bids; asks = c ∙ l .asks; search = d ∙ l .search }
+
+-- ## a cancel
+
+pub cancel-asks : {k : Stock} → Held k → Desk (k .records) (k .bids) (k .asks) (k .search) (k .book .resting) (k .book .free) (k .book .bids) (k .book .asks)
+    × ApartAt (k .records) (levelsIn (k .records) (k .bids) (k .book .bids)) (levelsIn (k .records) (k .asks) (k .book .asks))
+cancel-asks {k} h =
+    (h .sound .desk, apart-at (k .records) (k .bids) (k .asks) (k .search) (k .book .bids) (k .book .asks) (h .sound .orderly .orderly))
+
+module _ (id : Id) (b : OrderBook) (rs bd ak se : List ℕ) (b′ : OrderBook) (rs′ bd′ ak′ se′ : List ℕ)
+    (r : length rs′ ≡ length rs) (d : length bd′ ≡ length bd) (a : length ak′ ≡ length ak) (s : length se′ ≡ length se)
+    (l : Leaves (rule.only (rule.stays (id .0)) (deskBook rs bd ak se (b .bids) (b .asks))) rs′ bd′ ak′ se′ (b′ .resting) (b′ .free) (b′ .bids) (b′ .asks)) where
+  abbrev k : Stock
+  k = record { book = b; records = rs; bids = bd; asks = ak; search = se }
+
+  abbrev k′ : Stock
+  k′ = record { book = b′; records = rs′; bids = bd′; asks = ak′; search = se′ }
+
+  pub withdrawn : Withdraws id k k′
+  unfolding rule.perform
+  withdrawn = record { performs = performs }
+    where
+      performs : (z : rule.Size) (st : Statistics) (out : List ℕ) → Sound z k → Performs (Sound z) z (rule.cancel (id .0)) k st out (Done (Canceled id)) k′ st out
+      performs z st out w =
+          let whole : WholeBook z (bookIn k′) = subst (WholeBook z) (sym (l .book)) (whole-book-after z (deskIn k st) (rule.cancel (id .0)) (w .orderly)) in
+          carried (Canceled id) [] refl refl (λ i. record { book = (l .book) i; stats = statisticsOf st })
+          (record { lengths = lengths-stay r d a s (w .lengths); desk = l .desk; orderly = whole }) (sym (written-none fillRow (fill-faithful .long) out 0))

@@ -1,0 +1,23 @@
+use Rattle.desk.proofs.Asking.{row-left, row-none}
+use native.Mathlib.Omega.{arith}
+use borrow.Author.Needs.{needs}
+use Rattle.desk.proofs.has_no_row.Statement.{statement}
+use Rattle.desk.proofs.has_no_row.Tie as tie
+use Rattle.desk.proofs.has_no_row.Reads as reads
+use Rattle.desk.proofs.has_no_row.Lts as lts
+use Rattle.depth.proofs.is_new_price.Reads as is-new-price-reads
+
+-- src/lib.rt:53:9
+returns : tie.Need-returns
+returns c = λ rs sd fnd s. row-left _ _ sd fnd s (c .if1 .taken)
+
+-- src/lib.rt:55:5
+is-new-price-requires : tie.Need-is-new-price-requires
+is-new-price-requires c κs = c .before .before .pre
+
+-- src/lib.rt:48:1
+returns-2 : tie.Need-returns-2
+returns-2 c = λ rs sd fnd s. row-none _ _ sd fnd s (omega arith) (c .is-new-price .ensures rs sd fnd s)
+
+pub has-no-row-spec : {M : Type 1} → statement M
+has-no-row-spec = tie.close (tie.spec returns is-new-price-requires returns-2)

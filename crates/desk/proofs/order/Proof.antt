@@ -1,0 +1,109 @@
+use Rattle.desk.proofs.Ordering.{outlook-left, crowds-here}
+use Rattle.desk.specs.Stock.{Stock}
+use mathlib.Core.Path.{sym}
+use Rattle.desk.proofs.Asking.{sound-matchable}
+use Rattle.desk.proofs.Ordering.{order-refused, order-none, order-accepted}
+use Rattle.depth.proofs.Desk.{standing-bids, standing-asks}
+use Rattle.depth.proofs.Sides.{rising}
+use mathlib.Core.Path.{refl}
+use borrow.Author.Needs.{needs}
+use Rattle.desk.proofs.order.Statement.{statement}
+use Rattle.desk.proofs.order.Tie as tie
+use Rattle.desk.proofs.order.Reads as reads
+use Rattle.desk.proofs.order.Lts as lts
+use Rattle.desk.proofs.carry.Reads as carry-reads
+use Rattle.desk.proofs.is_crowded.Reads as is-crowded-reads
+use Rattle.desk.proofs.outlook.Reads as outlook-reads
+use Rattle.models.proofs.rows.fill_places.Reads as fill-places-reads
+use Rattle.order.proofs.refusal.Reads as refusal-reads
+use Rattle.order.proofs.rests.Reads as rests-reads
+
+-- src/lib.rt:168:9
+outlook-requires : tie.Need-outlook-requires
+outlook-requires c κs = sound-matchable (c .before .before .before .before .before .before .before .before .pre)
+
+-- src/lib.rt:169:9
+rests-requires : tie.Need-rests-requires
+rests-requires c κs = search needs
+
+-- src/lib.rt:170:9
+is-crowded-requires : tie.Need-is-crowded-requires
+is-crowded-requires c κs = (rising (standing-bids (c .before .before .before .before .before .before .before .before .before .before .before .before .pre .desk)), rising (standing-asks (c .before .before .before .before .before .before .before .before .before .before .before .before .pre .desk)))
+
+-- src/lib.rt:172:26
+fill-places-requires : tie.Need-fill-places-requires
+fill-places-requires c κs = search needs
+
+-- src/lib.rt:172:9
+refusal-requires : tie.Need-refusal-requires
+refusal-requires c κs = outlook-left (c .before .before .before .before .before .before .before .before .before .before .before .before .before .before .before .before .before .args .t) (c .before .before .before .before .before .before .before .before .before .before .before .before .before .before .before .before .before .args .book) (c .before .before .before .before .before .before .before .before .before .before .before .before .before .before .before .before .before .args .records .now) (c .before .before .before .before .before .before .before .before .before .before .before .before .before .before .before .before .before .args .bids .now) (c .before .before .before .before .before .before .before .before .before .before .before .before .before .before .before .before .before .args .asks .now) _ (c .before .before .before .before .before .before .before .before .outlook .ensures)
+
+-- src/lib.rt:174:9
+same-length : tie.Need-same-length
+same-length c = search needs
+
+-- src/lib.rt:174:9
+same-length-2 : tie.Need-same-length-2
+same-length-2 c = search needs
+
+-- src/lib.rt:174:9
+same-length-3 : tie.Need-same-length-3
+same-length-3 c = search needs
+
+-- src/lib.rt:174:9
+same-length-4 : tie.Need-same-length-4
+same-length-4 c = search needs
+
+-- src/lib.rt:174:9
+returns : tie.Need-returns
+returns c = order-refused (c .before .before .before .before .before .before .before .before .before .before .before .before .before .before .before .before .before .before .before .pre) _ (c .before .before .before .before .before .before .before .before .before .before .before .before .before .before .before .before .before .before .before .args .t) _ (c .before .before .before .before .before .before .before .before .before .before .before .before .before .before .before .before .before .before .before .args .statistics) (c .before .before .before .before .before .before .before .before .before .before .outlook .ensures) (c .before .before .before .before .before .before .before .before .before .rests .ensures) refl (crowds-here (record { book = c .before .before .before .before .before .before .before .before .before .before .before .before .before .before .before .before .before .before .before .args .book; records = c .before .before .before .before .before .before .before .before .before .before .before .before .before .before .before .before .before .before .before .args .records .now; bids = c .before .before .before .before .before .before .before .before .before .before .before .before .before .before .before .before .before .before .before .args .bids .now; asks = c .before .before .before .before .before .before .before .before .before .before .before .before .before .before .before .before .before .before .before .args .asks .now; search = c .before .before .before .before .before .before .before .before .before .before .before .before .before .before .before .before .before .before .before .args .search .now }) (c .before .before .before .before .before .before .before .before .before .before .before .before .before .before .before .before .before .before .before .pre) (c .before .before .before .before .before .before .before .before .before .before .before .before .before .before .before .before .before .before .before .args .t) (c .before .before .before .before .before .before .is-crowded .ensures)) (c .before .before .fill-places .ensures) (c .before .refusal .ensures) (c .if1 .taken) (c .before .before .before .before .before .before .before .before .before .before .before .before .before .before .before .before .before .before .before .args .fills .now)
+
+-- src/lib.rt:180:5
+carry-requires : tie.Need-carry-requires
+carry-requires c κs = order-accepted (c .before .before .before .before .before .before .before .before .before .before .before .before .before .before .before .before .before .before .before .before .before .before .before .before .pre) (c .before .before .before .before .before .before .before .before .before .before .before .before .before .before .before .before .before .before .before .before .before .before .before .before .args .fills .now) (c .before .before .before .before .before .before .before .before .before .before .before .before .before .before .before .before .before .before .before .before .before .before .before .before .args .t) _ (c .before .before .before .before .before .before .before .before .before .before .before .before .before .before .before .before .before .before .before .before .before .before .before .before .args .statistics) (c .before .before .before .before .before .before .before .before .before .before .before .before .before .before .before .outlook .ensures) (c .before .before .before .before .before .before .before .before .before .before .before .before .before .before .rests .ensures) (crowds-here (record { book = c .before .before .before .before .before .before .before .before .before .before .before .before .before .before .before .before .before .before .before .before .before .before .before .before .args .book; records = c .before .before .before .before .before .before .before .before .before .before .before .before .before .before .before .before .before .before .before .before .before .before .before .before .args .records .now; bids = c .before .before .before .before .before .before .before .before .before .before .before .before .before .before .before .before .before .before .before .before .before .before .before .before .args .bids .now; asks = c .before .before .before .before .before .before .before .before .before .before .before .before .before .before .before .before .before .before .before .before .before .before .before .before .args .asks .now; search = c .before .before .before .before .before .before .before .before .before .before .before .before .before .before .before .before .before .before .before .before .before .before .before .before .args .search .now }) (c .before .before .before .before .before .before .before .before .before .before .before .before .before .before .before .before .before .before .before .before .before .before .before .before .pre) (c .before .before .before .before .before .before .before .before .before .before .before .before .before .before .before .before .before .before .before .before .before .before .before .before .args .t) (c .before .before .before .before .before .before .before .before .before .before .before .is-crowded .ensures)) (c .before .before .before .before .before .before .before .fill-places .ensures) (c .before .before .before .before .before .before .refusal .ensures) (c .before .before .before .before .before .if1 .left)
+
+-- src/lib.rt:152:1
+same-length-5 : tie.Need-same-length-5
+same-length-5 c = c .before .before .before .before .before .before .before .before .before .before .carry .kept .0
+
+-- src/lib.rt:152:1
+same-length-6 : tie.Need-same-length-6
+same-length-6 c = c .before .before .before .before .before .before .before .before .before .before .carry .kept .1 .0
+
+-- src/lib.rt:152:1
+same-length-7 : tie.Need-same-length-7
+same-length-7 c = c .before .before .before .before .before .before .before .before .before .before .carry .kept .1 .1 .0
+
+-- src/lib.rt:152:1
+same-length-8 : tie.Need-same-length-8
+same-length-8 c = c .before .before .before .before .before .before .before .before .before .before .carry .kept .1 .1 .1 .0
+
+-- src/lib.rt:152:1
+same-length-9 : tie.Need-same-length-9
+same-length-9 c = c .before .before .before .before .before .before .before .before .before .before .carry .kept .1 .1 .1 .1 .0
+
+-- src/lib.rt:152:1
+returns-2 : tie.Need-returns-2
+returns-2 c = c .before .before .before .before .before .before .before .before .before .before .carry .ensures .performs _ (c .before .before .before .before .before .before .before .before .before .before .before .before .before .before .before .before .before .before .before .before .before .before .before .before .before .before .before .before .before .before .before .before .before .before .before .pre) (order-none (c .before .before .before .before .before .before .before .before .before .before .before .before .before .before .before .before .before .before .before .before .before .before .before .before .before .before .before .before .before .before .before .before .before .before .before .pre) _ (c .before .before .before .before .before .before .before .before .before .before .before .before .before .before .before .before .before .before .before .before .before .before .before .before .before .before .before .before .before .before .before .before .before .before .before .args .t) _ (c .before .before .before .before .before .before .before .before .before .before .before .before .before .before .before .before .before .before .before .before .before .before .before .before .before .before .before .before .before .before .before .before .before .before .before .args .statistics) (c .before .before .before .before .before .before .before .before .before .before .before .before .before .before .before .before .before .before .before .before .before .before .before .before .before .before .outlook .ensures) (c .before .before .before .before .before .before .before .before .before .before .before .before .before .before .before .before .before .before .before .before .before .before .before .before .before .rests .ensures) refl (crowds-here (record { book = c .before .before .before .before .before .before .before .before .before .before .before .before .before .before .before .before .before .before .before .before .before .before .before .before .before .before .before .before .before .before .before .before .before .before .before .args .book; records = c .before .before .before .before .before .before .before .before .before .before .before .before .before .before .before .before .before .before .before .before .before .before .before .before .before .before .before .before .before .before .before .before .before .before .before .args .records .now; bids = c .before .before .before .before .before .before .before .before .before .before .before .before .before .before .before .before .before .before .before .before .before .before .before .before .before .before .before .before .before .before .before .before .before .before .before .args .bids .now; asks = c .before .before .before .before .before .before .before .before .before .before .before .before .before .before .before .before .before .before .before .before .before .before .before .before .before .before .before .before .before .before .before .before .before .before .before .args .asks .now; search = c .before .before .before .before .before .before .before .before .before .before .before .before .before .before .before .before .before .before .before .before .before .before .before .before .before .before .before .before .before .before .before .before .before .before .before .args .search .now }) (c .before .before .before .before .before .before .before .before .before .before .before .before .before .before .before .before .before .before .before .before .before .before .before .before .before .before .before .before .before .before .before .before .before .before .before .pre) (c .before .before .before .before .before .before .before .before .before .before .before .before .before .before .before .before .before .before .before .before .before .before .before .before .before .before .before .before .before .before .before .before .before .before .before .args .t) (c .before .before .before .before .before .before .before .before .before .before .before .before .before .before .before .before .before .before .before .before .before .before .is-crowded .ensures)) (c .before .before .before .before .before .before .before .before .before .before .before .before .before .before .before .before .before .before .fill-places .ensures) (c .before .before .before .before .before .before .before .before .before .before .before .before .before .before .before .before .before .refusal .ensures) (c .before .before .before .before .before .before .before .before .before .before .before .before .before .before .before .before .if1 .left))
+
+pub order-spec : {M : Type 1} → statement M
+order-spec =
+    tie.close
+    (tie.spec
+    outlook-requires
+    rests-requires
+    is-crowded-requires
+    fill-places-requires
+    refusal-requires
+    same-length
+    same-length-2
+    same-length-3
+    same-length-4
+    returns
+    carry-requires
+    same-length-5
+    same-length-6
+    same-length-7
+    same-length-8
+    same-length-9
+    returns-2)

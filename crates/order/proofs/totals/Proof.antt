@@ -1,0 +1,21 @@
+use borrow.Author.Needs.{needs}
+use Rattle.order.proofs.totals.Statement.{statement}
+use Rattle.order.proofs.totals.Tie as tie
+use Rattle.order.proofs.totals.Reads as reads
+use Rattle.order.proofs.totals.Lts as lts
+use Rattle.models.proofs.sums.exact.Reads as exact-reads
+
+-- src/lib.rt:41:26
+sub-exact : tie.Need-sub-exact
+sub-exact c = search needs
+
+-- src/lib.rt:41:9
+exact-requires : tie.Need-exact-requires
+exact-requires c κs = search needs
+
+-- src/lib.rt:36:1
+returns : tie.Need-returns
+returns c = cc
+
+pub totals-spec : {M : Type 1} → statement M
+totals-spec = tie.close (tie.spec sub-exact exact-requires returns)
