@@ -6,11 +6,12 @@ use mathlib.Core.Path.{sym, _∙_, _≡_}
 use native.Mathlib.Omega.{arith}
 use lib.ListN.{length}
 use borrow.Author.Tests.{not-true}
+use Rattle.side.specs.Orders.{ordersIn}
 use Rattle.rules.specs.Rules.{Side, anyAbove, ask, bid, levels, most}
 use Rattle.models.specs.Rows.{levelRow, places}
 use Rattle.side.proofs.Stored.{row-of}
 use Rattle.ledger.specs.Desk.{Desk, deskBook, found}
-use Rattle.depth.specs.Sides.{Fitting, Standing, ordersIn}
+use Rattle.depth.specs.Sides.{Fitting, Standing}
 use Rattle.depth.proofs.Levels.{levels-count}
 
 module _ {rs bd ak se : List ℕ} {r f nb na : ℕ} (w : Desk rs bd ak se r f nb na) where
@@ -37,8 +38,8 @@ pub rows-within : {rs lv : List ℕ} {n : ℕ} → Standing rs lv n → n * 3 �
 rows-within s = s .ladder .room
 
 -- what `totals_fit` tells, for `put_levels` and `put_depth`
-pub fitting : {rs lv : List ℕ} {n : ℕ} {fits : Bool} → ((sd : Side) (fnd : ℕ → Bool) → fits ≡ not (anyAbove most (levels (ordersIn sd fnd rs lv n)))) → fits ≡ true → Fitting rs lv n
-fitting {rs} {lv} {n} h e = record { on = ask; fnd = λ x. true; fits = not-true (anyAbove most (levels (ordersIn ask (λ x. true) rs lv n))) (sym (h ask (λ x. true)) ∙ e) }
+pub fitting : {rs lv : List ℕ} {n : ℕ} {fits : Bool} → ((sd : Side) (fnd : ℕ → Bool) → fits ≡ not (anyAbove most (levels (ordersIn sd rs fnd lv n)))) → fits ≡ true → Fitting rs lv n
+fitting {rs} {lv} {n} h e = record { on = ask; fnd = λ x. true; fits = not-true (anyAbove most (levels (ordersIn ask rs (λ x. true) lv n))) (sym (h ask (λ x. true)) ∙ e) }
 
 -- places for the levels of both sides
 pub room-for : (out : List ℕ) (na nb : ℕ) → na + nb ≤ places levelRow out → (na + nb) * 2 ≤ length out

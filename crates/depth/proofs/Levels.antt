@@ -16,12 +16,12 @@ use Rattle.arena.specs.Links.{headOf, priceOf}
 use Rattle.arena.specs.Times.{times}
 use Rattle.arena.proofs.Times.{one-self}
 use Rattle.side.specs.Levels.{Lvl, downs, ups}
-use Rattle.side.specs.Orders.{orders}
+use Rattle.side.specs.Orders.{orders, ordersIn}
 use Rattle.side.specs.Read.{levelsFrom, levelsIn}
 use Rattle.side.proofs.Levels.{downs-times}
 use Rattle.side.proofs.Orders.{Tiers, side-tiers}
 use Rattle.ledger.specs.Desk.{Busy}
-use Rattle.depth.specs.Sides.{Standing, ascending, ordersIn, quantities, queueIn}
+use Rattle.depth.specs.Sides.{Standing, ascending, quantities, queueIn}
 
 -- ## levels of lists of orders
 joined-new : (p q n r : ℕ) (l : List Level) → p ≢ n → joined p q (joined n r l) ≡ record { price = p; total = q } ∷ joined n r l
@@ -127,15 +127,15 @@ reverse-length (v ∷ l) = ap length (reverse-cons v l) ∙ omega (arith, length
 
 module _ {rs lv : List ℕ} {n : ℕ} (s : Standing rs lv n) (sd : Side) (fnd : ℕ → Bool) where
   -- they are the rules' levels of its orders
-  pub levels-in : levels (ordersIn sd fnd rs lv n) ≡ ascending sd (totalsIn rs lv n)
+  pub levels-in : levels (ordersIn sd rs fnd lv n) ≡ ascending sd (totalsIn rs lv n)
   levels-in = go sd
     where
-      go : (sd : Side) → levels (ordersIn sd fnd rs lv n) ≡ ascending sd (totalsIn rs lv n)
+      go : (sd : Side) → levels (ordersIn sd rs fnd lv n) ≡ ascending sd (totalsIn rs lv n)
       go bid = levels-down rs fnd (levelsIn rs lv n) (s .busy) (side-tiers (s .ladder))
       go ask = levels-up rs fnd (levelsIn rs lv n) (s .busy) (side-tiers (s .ladder))
 
   -- in ascending order
-  pub levels-ascending : ascending sd (levels (ordersIn sd fnd rs lv n)) ≡ totalsIn rs lv n
+  pub levels-ascending : ascending sd (levels (ordersIn sd rs fnd lv n)) ≡ totalsIn rs lv n
   levels-ascending = ap (ascending sd) levels-in ∙ go sd
     where
       go : (sd : Side) → ascending sd (ascending sd (totalsIn rs lv n)) ≡ totalsIn rs lv n
@@ -143,7 +143,7 @@ module _ {rs lv : List ℕ} {n : ℕ} (s : Standing rs lv n) (sd : Side) (fnd : 
       go ask = refl
 
   -- as many as there are rows
-  pub levels-count : length (levels (ordersIn sd fnd rs lv n)) ≡ n
+  pub levels-count : length (levels (ordersIn sd rs fnd lv n)) ≡ n
   levels-count = ap length levels-in ∙ (go sd ∙ (totals-length rs (levelsIn rs lv n) ∙ s .ladder .count))
     where
       go : (sd : Side) → length (ascending sd (totalsIn rs lv n)) ≡ length (totalsIn rs lv n)

@@ -17,7 +17,7 @@ use Rattle.arena.specs.Links.{headOf, priceOf}
 use Rattle.arena.specs.Times.{times}
 use Rattle.arena.proofs.Times.{one-self}
 use Rattle.side.specs.Levels.{Lvl, downs, nth, ups}
-use Rattle.side.specs.Orders.{codes, orders}
+use Rattle.side.specs.Orders.{codes, orders, ordersIn}
 use Rattle.side.specs.Read.{levelsIn}
 use Rattle.side.specs.Prices.{Bracket}
 use Rattle.side.proofs.Leaving.{stands}
@@ -25,7 +25,7 @@ use Rattle.side.proofs.Levels.{nth-times}
 use Rattle.side.proofs.Orders.{Tiers, codes-times, side-tiers}
 use Rattle.ledger.specs.Desk.{Busy}
 use Rattle.ledger.specs.Doors.{sideOf}
-use Rattle.depth.specs.Sides.{Standing, ordersIn}
+use Rattle.depth.specs.Sides.{Standing}
 use Rattle.depth.specs.Answers.{turnOf}
 use Rattle.depth.proofs.Sides.{busy-at, head-some, rising, some-row}
 
@@ -65,13 +65,13 @@ pub first-here : (b : Bool) (lv : List ℕ) (n left : ℕ) → 0 < left → head
 first-here b lv n zero h e = absurd (let z : ⊥ = omega arith in z)
 first-here b lv n (suc k) h e = rw (ne-eqb _ _ e)
 
-pub first-best : {rs lv : List ℕ} {n : ℕ} (b : Bool) (fnd : ℕ → Bool) → Standing rs lv n → firstFrom b lv n n ≡ best (ordersIn (sideOf b) fnd rs lv n)
+pub first-best : {rs lv : List ℕ} {n : ℕ} (b : Bool) (fnd : ℕ → Bool) → Standing rs lv n → firstFrom b lv n n ≡ best (ordersIn (sideOf b) rs fnd lv n)
 first-best {rs} {lv} {n} b fnd s = go b n refl
   where
     at : (i m : ℕ) → i < n → m ≡ i → some (priceOf lv m) ≡ some (nth (levelsIn rs lv n) i .price)
     at i m h e = ap (λ (k : ℕ). some (priceOf lv k)) e ∙ ap some (s .ladder .level i h .price)
 
-    go : (b : Bool) (m : ℕ) → n ≡ m → firstFrom b lv n n ≡ best (ordersIn (sideOf b) fnd rs lv n)
+    go : (b : Bool) (m : ℕ) → n ≡ m → firstFrom b lv n n ≡ best (ordersIn (sideOf b) rs fnd lv n)
     go true zero e = rw e
     go false zero e = rw e
     go true (suc k) e =
@@ -95,10 +95,10 @@ module _ {b : Bool} {lv : List ℕ} {n left : ℕ} (w : Walked b lv n left) wher
     pub walk-again : headOf lv r ≡ 0 → Walked b lv n (left - 1)
     walk-again z = record { within = omega (arith, w .within); same = first-on b lv n left h (rw e at z) ∙ w .same }
 
-    pub walk-present : headOf lv r ≢ 0 → (rs : List ℕ) (fnd : ℕ → Bool) → Standing rs lv n → some (priceOf lv r) ≡ best (ordersIn (sideOf b) fnd rs lv n)
+    pub walk-present : headOf lv r ≢ 0 → (rs : List ℕ) (fnd : ℕ → Bool) → Standing rs lv n → some (priceOf lv r) ≡ best (ordersIn (sideOf b) rs fnd lv n)
     walk-present z rs fnd s = rw e (sym (first-here b lv n left h (rw e at z)) ∙ (w .same ∙ first-best b fnd s))
 
-  pub walk-absent : left ≡ 0 → (rs : List ℕ) (fnd : ℕ → Bool) → Standing rs lv n → none ≡ best (ordersIn (sideOf b) fnd rs lv n)
+  pub walk-absent : left ≡ 0 → (rs : List ℕ) (fnd : ℕ → Bool) → Standing rs lv n → none ≡ best (ordersIn (sideOf b) rs fnd lv n)
   walk-absent z rs fnd s = (rw z at (w .same)) ∙ first-best b fnd s
 
 -- ## a price that is new to the side
@@ -127,7 +127,7 @@ module _ {rs lv : List ℕ} {n : ℕ} (s : Standing rs lv n) (sd : Side) (fnd : 
   some-of (x ∷ l) h = (x, omega (arith, one-self x))
 
   -- a row has it
-  pub occupied-row : (i : ℕ) → i < n → priceOf lv i ≡ p → occupied p (ordersIn sd fnd rs lv n) ≡ true
+  pub occupied-row : (i : ℕ) → i < n → priceOf lv i ≡ p → occupied p (ordersIn sd rs fnd lv n) ≡ true
   occupied-row i h e =
       let ws = levelsIn rs lv n in
       let x = some-of (nth ws i .queue) (busy-at ws i (s .busy) (some-row s i h)) in
@@ -135,7 +135,7 @@ module _ {rs lv : List ℕ} {n : ℕ} (s : Standing rs lv n) (sd : Side) (fnd : 
       (s .ladder .level i h .priced (x .0) (x .1) ∙ (sym (s .ladder .level i h .price) ∙ e))
 
   -- no row has it
-  pub occupied-nowhere : ((i : ℕ) → i < n → p ≢ priceOf lv i) → occupied p (ordersIn sd fnd rs lv n) ≡ false
+  pub occupied-nowhere : ((i : ℕ) → i < n → p ≢ priceOf lv i) → occupied p (ordersIn sd rs fnd lv n) ≡ false
   occupied-nowhere h =
       occupied-none rs fnd p (codes sd (levelsIn rs lv n)) (λ x j e.
       let v = stands (levelsIn rs lv n) x (omega (arith, codes-times sd x (levelsIn rs lv n))) in
@@ -144,10 +144,10 @@ module _ {rs lv : List ℕ} {n : ℕ} (s : Standing rs lv n) (sd : Side) (fnd : 
 
   -- where the search for it ended among the rows, and past them
   module _ {k : ℕ} (b : Bracket lv n p k k) where
-    pub new-within : k < n → not (eqb (priceOf lv k) p) ≡ not (occupied p (ordersIn sd fnd rs lv n))
+    pub new-within : k < n → not (eqb (priceOf lv k) p) ≡ not (occupied p (ordersIn sd rs fnd lv n))
     new-within h = go (eqb (priceOf lv k) p) refl
       where
-        go : (t : Bool) → eqb (priceOf lv k) p ≡ t → not t ≡ not (occupied p (ordersIn sd fnd rs lv n))
+        go : (t : Bool) → eqb (priceOf lv k) p ≡ t → not t ≡ not (occupied p (ordersIn sd rs fnd lv n))
         go true e = rw (occupied-row k h (eqb-true (priceOf lv k) p e))
         go false e =
             let d : priceOf lv k ≢ p = eqb-false (priceOf lv k) p e in
@@ -156,5 +156,5 @@ module _ {rs lv : List ℕ} {n : ℕ} (s : Standing rs lv n) (sd : Side) (fnd : 
             other : (i : ℕ) → i < n → p ≡ priceOf lv i → k ≤ i → priceOf lv k ≢ p → ⊥
             other i j z u d = ⊎-elim (λ v. omega (arith, rising s .rise k i v j, b .high k (omega arith) h)) (λ v. d (let w : k ≡ i = omega arith in ap (priceOf lv) w ∙ sym z)) (lt? k i)
 
-    pub new-past : n ≤ k → true ≡ not (occupied p (ordersIn sd fnd rs lv n))
+    pub new-past : n ≤ k → true ≡ not (occupied p (ordersIn sd rs fnd lv n))
     new-past h = rw (occupied-nowhere (λ i j z. omega (arith, b .low i (omega arith))))

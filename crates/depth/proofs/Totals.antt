@@ -11,6 +11,7 @@ use lib.ListN.{drop, length, length-drop, take}
 use lib.Seq.{drop-length, take-all}
 use borrow.Rule.Slice.PartMut.{midOf, post-is, postOf, putMid}
 use borrow.Author.Tests.{le-ltb, lt-ltb, ltb-false}
+use Rattle.side.specs.Orders.{ordersIn}
 use Rattle.rules.specs.Rules.{Level, Side, anyAbove, ask, bid, levels, most}
 use Rattle.models.specs.Rows.{levelRow, written}
 use Rattle.models.specs.Sums.{capped}
@@ -18,7 +19,7 @@ use Rattle.models.specs.declared.sums.Sum.{Sum}
 use Rattle.models.proofs.Capped.{capped-large, capped-small}
 use Rattle.models.proofs.Places.{level-faithful, written-append, written-length, written-none, written-part, written-step}
 use Rattle.arena.specs.Links.{headOf, priceOf}
-use Rattle.depth.specs.Sides.{Fitting, Standing, ascending, ordersIn, quantities, queueIn}
+use Rattle.depth.specs.Sides.{Fitting, Standing, ascending, quantities, queueIn}
 use Rattle.depth.proofs.Levels.{levels-ascending, levels-count, levels-in, totals-none, totals-step, totalsFrom, totalsIn}
 
 -- ## a total that is too large
@@ -47,7 +48,7 @@ above-ascending bid n l = above-reverse n l
 above-ascending ask n l = refl
 
 -- by the rules, and by the rows
-pub above-in : {rs lv : List ℕ} {n : ℕ} → Standing rs lv n → (sd : Side) (fnd : ℕ → Bool) → anyAbove most (levels (ordersIn sd fnd rs lv n)) ≡ anyAbove most (totalsIn rs lv n)
+pub above-in : {rs lv : List ℕ} {n : ℕ} → Standing rs lv n → (sd : Side) (fnd : ℕ → Bool) → anyAbove most (levels (ordersIn sd rs fnd lv n)) ≡ anyAbove most (totalsIn rs lv n)
 above-in {rs} {lv} {n} s sd fnd = ap (anyAbove most) (levels-in s sd fnd) ∙ above-ascending sd most (totalsIn rs lv n)
 
 capped-over : (q : ℕ) → capped q .over ≡ ltb most q
@@ -70,7 +71,7 @@ module _ {rs lv : List ℕ} {n i : ℕ} (f : Fit rs lv n i) {t : Sum} (h : i < n
   unfolding anyAbove
   here = ap (anyAbove most) (totals-step rs lv i n h) ∙ rw (e, capped-over (quantities rs (queueIn rs (headOf lv i))))
 
-  pub fit-over : t .over ≡ true → Standing rs lv n → (sd : Side) (fnd : ℕ → Bool) → false ≡ not (anyAbove most (levels (ordersIn sd fnd rs lv n)))
+  pub fit-over : t .over ≡ true → Standing rs lv n → (sd : Side) (fnd : ℕ → Bool) → false ≡ not (anyAbove most (levels (ordersIn sd rs fnd lv n)))
   fit-over o s sd fnd = rw (above-in s sd fnd, ← f .same, here, o)
 
   pub fit-again : t .over ≡ false → Fit rs lv n (i + 1)
@@ -79,7 +80,7 @@ module _ {rs lv : List ℕ} {n i : ℕ} (f : Fit rs lv n i) {t : Sum} (h : i < n
       here′ : anyAbove most (totalsFrom rs lv i (n - i)) ≡ anyAbove most (totalsFrom rs lv (i + 1) (n - (i + 1)))
       here′ = rw (here, o)
 
-pub fit-end : {rs lv : List ℕ} {n i : ℕ} → Fit rs lv n i → n ≤ i → Standing rs lv n → (sd : Side) (fnd : ℕ → Bool) → true ≡ not (anyAbove most (levels (ordersIn sd fnd rs lv n)))
+pub fit-end : {rs lv : List ℕ} {n i : ℕ} → Fit rs lv n i → n ≤ i → Standing rs lv n → (sd : Side) (fnd : ℕ → Bool) → true ≡ not (anyAbove most (levels (ordersIn sd rs fnd lv n)))
 unfolding anyAbove
 fit-end {rs} {lv} {n} {i} f h s sd fnd = rw (above-in s sd fnd, ← f .same, totals-none rs lv i n h)
 
@@ -120,7 +121,7 @@ module _ {rs lv : List ℕ} {n : ℕ} {out₀ out : List ℕ} {i : ℕ} (p : Put
           ∙ (ap (written levelRow out i) (sym (totals-step rs lv i n h)) ∙ p .same);
     })
 
-  pub put-end : n ≤ i → Standing rs lv n → (sd : Side) (fnd : ℕ → Bool) → out ≡ written levelRow out₀ 0 (ascending sd (levels (ordersIn sd fnd rs lv n)))
+  pub put-end : n ≤ i → Standing rs lv n → (sd : Side) (fnd : ℕ → Bool) → out ≡ written levelRow out₀ 0 (ascending sd (levels (ordersIn sd rs fnd lv n)))
   put-end h s sd fnd = rw (levels-ascending s sd fnd, ← p .same, totals-none rs lv i n h) (sym (written-none levelRow (level-faithful .long) out i))
 
 -- ## two lists of levels, the second written to the part past the first
@@ -137,7 +138,7 @@ put-both out mid part a xs ys e h f g =
 
 -- the asks, and past them the bids
 pub put-sides : (out : List ℕ) {mid part : List ℕ} {rs bd ak : List ℕ} {nb na : ℕ} → Standing rs bd nb → Standing rs ak na → (fnd : ℕ → Bool) → na * 2 ≤ length out
-    → mid ≡ written levelRow out 0 (levels (ordersIn ask fnd rs ak na)) → part ≡ written levelRow (midOf (na * 2) (length mid - na * 2) mid) 0 (reverse (levels (ordersIn bid fnd rs bd nb)))
-    → putMid (na * 2) (length mid - na * 2) mid part ≡ written levelRow out 0 (levels (ordersIn ask fnd rs ak na) ++ reverse (levels (ordersIn bid fnd rs bd nb)))
+    → mid ≡ written levelRow out 0 (levels (ordersIn ask rs fnd ak na)) → part ≡ written levelRow (midOf (na * 2) (length mid - na * 2) mid) 0 (reverse (levels (ordersIn bid rs fnd bd nb)))
+    → putMid (na * 2) (length mid - na * 2) mid part ≡ written levelRow out 0 (levels (ordersIn ask rs fnd ak na) ++ reverse (levels (ordersIn bid rs fnd bd nb)))
 put-sides out {mid} {part} {rs} {bd} {ak} {nb} {na} s t fnd h f g =
-    put-both out mid part na (levels (ordersIn ask fnd rs ak na)) (reverse (levels (ordersIn bid fnd rs bd nb))) (sym (levels-count t ask fnd)) h f g
+    put-both out mid part na (levels (ordersIn ask rs fnd ak na)) (reverse (levels (ordersIn bid rs fnd bd nb))) (sym (levels-count t ask fnd)) h f g

@@ -9,13 +9,9 @@ use Rattle.records.specs.Rows.{Row, field, places}
 use Rattle.arena.specs.Free.{Chain, chain}
 use Rattle.arena.specs.Times.{times}
 use Rattle.side.specs.Levels.{Ladder, ups}
-use Rattle.side.specs.Orders.{codes, orders}
+use Rattle.side.specs.Orders.{codes, orders, ordersIn}
 use Rattle.side.specs.Read.{levelsIn}
 use Rattle.ledger.specs.Desk.{Busy}
-
--- the orders of the side, best first, where it is side sd; `fnd` says which of them the search finds
-abbrev pub ordersIn : Side → (ℕ → Bool) → List ℕ → List ℕ → ℕ → List (Order (Unit {0}))
-ordersIn sd fnd rs lv n = orders rs fnd (codes sd (levelsIn rs lv n))
 
 -- the rows store a side: prices strictly ascending, none without an order, and each order is a record
 pub record Standing (rs lv : List ℕ) (n : ℕ) : Type 0 where
@@ -34,7 +30,7 @@ ascending ask l = l
 pub record Fitting (rs lv : List ℕ) (n : ℕ) : Type 0 where
   pub on : Side
   pub fnd : ℕ → Bool
-  pub fits : anyAbove most (levels (ordersIn on fnd rs lv n)) ≡ false
+  pub fits : anyAbove most (levels (ordersIn on rs fnd lv n)) ≡ false
 
 -- ## One queue
 

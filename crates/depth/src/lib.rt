@@ -5,12 +5,13 @@ ghost use mathlib.Core.Bool.{Bool, not};
 ghost use mathlib.Core.List.{List, _++_, reverse};
 ghost use Prim.Native.Nat.{ℕ, _+_, _*_, _<_, _≤_};
 ghost use lib.ListN.{length};
+ghost use Rattle.side.specs.Orders.{ordersIn};
 ghost use Rattle.rules.specs.Rules as rule;
 ghost use Rattle.models.specs.Rows.{levelRow, written};
 ghost use Rattle.models.specs.Sums.{capped};
 ghost use Rattle.side.specs.Prices.{Rising};
 ghost use Rattle.ledger.specs.Doors.{sideOf};
-ghost use Rattle.depth.specs.Sides.{ordersIn, Standing, ascending, Fitting, queueIn, Queue, quantities};
+ghost use Rattle.depth.specs.Sides.{Standing, ascending, Fitting, queueIn, Queue, quantities};
 ghost use Rattle.depth.specs.Answers.{quoteOf, turnOf, Looks};
 use arena::HEAD;
 use arena::ROW;
@@ -63,7 +64,7 @@ fn turn(n: usize, left: usize, ask: bool) -> usize
 pub fn first_occupied(levels: &[u64], n: usize, ask: bool) -> Quote
     requires { ⌜ n * 3 ≤ length (now levels) ⌝ }
     ensures { λ q. ⌜ ((rs : List ℕ) (fnd : ℕ → Bool) → Standing rs (now (levels .entry)) n
-        → quoteOf q ≡ rule.best (ordersIn (sideOf ask) fnd rs (now (levels .entry)) n)) ⌝ }
+        → quoteOf q ≡ rule.best (ordersIn (sideOf ask) rs fnd (now (levels .entry)) n)) ⌝ }
 {
     let mut left = n;
     while 0 < left {
@@ -94,7 +95,7 @@ fn total(records: &[u64], head: u64) -> Sum
 pub fn totals_fit(records: &[u64], levels: &[u64], n: usize) -> bool
     requires { ⌜ Standing (now records) (now levels) n ⌝ }
     ensures { λ r. ⌜ ((sd : rule.Side) (fnd : ℕ → Bool)
-        → r ≡ not (rule.anyAbove rule.most (rule.levels (ordersIn sd fnd (now (records .entry)) (now (levels .entry)) n)))) ⌝ }
+        → r ≡ not (rule.anyAbove rule.most (rule.levels (ordersIn sd (now (records .entry)) fnd (now (levels .entry)) n)))) ⌝ }
 {
     let mut k = 0;
     while k < n {
@@ -111,7 +112,7 @@ pub fn totals_fit(records: &[u64], levels: &[u64], n: usize) -> bool
 pub fn put_levels(records: &[u64], levels: &[u64], n: usize, out: &mut [u64])
     requires { ⌜ Standing (now records) (now levels) n × Fitting (now records) (now levels) n × (n * 2 ≤ length (now out)) ⌝ }
     ensures { λ _. ⌜ ((sd : rule.Side) (fnd : ℕ → Bool)
-        → now (out .exit) ≡ written levelRow (now (out .entry)) 0 (ascending sd (rule.levels (ordersIn sd fnd (now (records .entry)) (now (levels .entry)) n)))) ⌝ }
+        → now (out .exit) ≡ written levelRow (now (out .entry)) 0 (ascending sd (rule.levels (ordersIn sd (now (records .entry)) fnd (now (levels .entry)) n)))) ⌝ }
 {
     let mut i = 0;
     while i < n {
@@ -134,8 +135,8 @@ pub fn put_depth(records: &[u64], bids: &[u64], nb: usize, asks: &[u64], na: usi
     requires { ⌜ Standing (now records) (now bids) nb × Standing (now records) (now asks) na
         × Fitting (now records) (now bids) nb × Fitting (now records) (now asks) na × ((na + nb) * 2 ≤ length (now out)) ⌝ }
     ensures { λ _. ⌜ ((fnd : ℕ → Bool) → now (out .exit) ≡ written levelRow (now (out .entry)) 0
-        (rule.levels (ordersIn rule.ask fnd (now (records .entry)) (now (asks .entry)) na)
-        ++ reverse (rule.levels (ordersIn rule.bid fnd (now (records .entry)) (now (bids .entry)) nb)))) ⌝ }
+        (rule.levels (ordersIn rule.ask (now (records .entry)) fnd (now (asks .entry)) na)
+        ++ reverse (rule.levels (ordersIn rule.bid (now (records .entry)) fnd (now (bids .entry)) nb)))) ⌝ }
 {
     put_levels(records, asks, na, out);
     let past = na * LEVEL;
@@ -146,7 +147,7 @@ pub fn put_depth(records: &[u64], bids: &[u64], nb: usize, asks: &[u64], na: usi
 pub fn is_new_price(levels: &[u64], n: usize, price: Price) -> bool
     requires { ⌜ Rising (now levels) n ⌝ }
     ensures { λ r. ⌜ ((rs : List ℕ) (sd : rule.Side) (fnd : ℕ → Bool) → Standing rs (now (levels .entry)) n
-        → r ≡ not (rule.occupied (price .0) (ordersIn sd fnd rs (now (levels .entry)) n))) ⌝ }
+        → r ≡ not (rule.occupied (price .0) (ordersIn sd rs fnd (now (levels .entry)) n))) ⌝ }
 {
     let p = price.0;
     let k = side::find_row(levels, n, p);

@@ -7,6 +7,7 @@ use mathlib.Core.List.{List, [], _∷_}
 use lib.Dec.{leb}
 use lib.ListN.{length}
 use borrow.Author.Tests.{le-leb, lt-leb}
+use Rattle.side.specs.Orders.{ordersIn}
 use Rattle.rules.specs.Rules as rule
 use Rattle.rules.specs.Whole.{WholeBook}
 use Rattle.rules.proofs.Bounds.{whole-book-after}
@@ -22,13 +23,12 @@ use Rattle.ledger.specs.declared.OrderBook.{OrderBook}
 use Rattle.ledger.specs.Desk.{Desk, Leaves, deskBook, found}
 use Rattle.ledger.specs.Doors.{ApartAt}
 use Rattle.ledger.proofs.Apart.{apart-at}
-use Rattle.depth.specs.Sides.{Standing, ordersIn}
+use Rattle.depth.specs.Sides.{Standing}
 use Rattle.depth.proofs.Levels.{levels-count}
 use Rattle.models.specs.declared.Side.{Side}
 use Rattle.models.specs.declared.Side.the-variants.{Bid, Ask}
 use Rattle.survey.specs.declared.Outlook.{Outlook}
 use Rattle.survey.specs.declared.Taker.{Taker}
-use Rattle.survey.specs.Makers.{ordersIn as makersIn}
 use Rattle.survey.specs.Surveyed.{surveyed}
 use Rattle.survey.specs.Taker.{takerOf, metSide}
 use Rattle.survey.proofs.Able.{can-match}
@@ -47,28 +47,28 @@ sound-matchable {z} {k} w =
 
 -- the makers' side, by the side of the order
 module _ (t : Taker) (b : OrderBook) (rs bd ak : List ℕ) {s : Outlook} where
-  pub foretells-bid : t .side ≡ Bid → ((room : ℕ) (fnd : ℕ → Bool) → s ≡ surveyed (rule.outcome (takerOf room t) (makersIn (metSide t) rs fnd ak (b .asks)))) → Foretells t b rs bd ak s
+  pub foretells-bid : t .side ≡ Bid → ((room : ℕ) (fnd : ℕ → Bool) → s ≡ surveyed (rule.outcome (takerOf room t) (ordersIn (metSide t) rs fnd ak (b .asks)))) → Foretells t b rs bd ak s
   foretells-bid e h room se =
       h room (found se rs)
       ∙ ap (λ (l : List (rule.Order (Unit {0}))). surveyed (rule.outcome (takerOf room t) l))
-      (ap (λ (v : Side). makersIn (rule.opposite (sideOf v)) rs (found se rs) ak (b .asks)) e
+      (ap (λ (v : Side). ordersIn (rule.opposite (sideOf v)) rs (found se rs) ak (b .asks)) e
       ∙ sym (ap (λ (v : Side). rule.own (rule.opposite (sideOf v)) (deskBook rs bd ak se (b .bids) (b .asks))) e))
 
-  pub foretells-ask : t .side ≡ Ask → ((room : ℕ) (fnd : ℕ → Bool) → s ≡ surveyed (rule.outcome (takerOf room t) (makersIn (metSide t) rs fnd bd (b .bids)))) → Foretells t b rs bd ak s
+  pub foretells-ask : t .side ≡ Ask → ((room : ℕ) (fnd : ℕ → Bool) → s ≡ surveyed (rule.outcome (takerOf room t) (ordersIn (metSide t) rs fnd bd (b .bids)))) → Foretells t b rs bd ak s
   foretells-ask e h room se =
       h room (found se rs)
       ∙ ap (λ (l : List (rule.Order (Unit {0}))). surveyed (rule.outcome (takerOf room t) l))
-      (ap (λ (v : Side). makersIn (rule.opposite (sideOf v)) rs (found se rs) bd (b .bids)) e
+      (ap (λ (v : Side). ordersIn (rule.opposite (sideOf v)) rs (found se rs) bd (b .bids)) e
       ∙ sym (ap (λ (v : Side). rule.own (rule.opposite (sideOf v)) (deskBook rs bd ak se (b .bids) (b .asks))) e))
 
 -- ## a price without a row
 
 module _ (most p : ℕ) {rs lv : List ℕ} {n : ℕ} (sd : rule.Side) (fnd : ℕ → Bool) (s : Standing rs lv n) where
-  pub row-left : n < most → false ≡ noRow most p (ordersIn sd fnd rs lv n)
-  row-left h = sym (rw (levels-count s sd fnd, lt-leb most n h) (and-false (not (rule.occupied p (ordersIn sd fnd rs lv n)))))
+  pub row-left : n < most → false ≡ noRow most p (ordersIn sd rs fnd lv n)
+  row-left h = sym (rw (levels-count s sd fnd, lt-leb most n h) (and-false (not (rule.occupied p (ordersIn sd rs fnd lv n)))))
 
-  pub row-none : {r : Bool} → most ≤ n → r ≡ not (rule.occupied p (ordersIn sd fnd rs lv n)) → r ≡ noRow most p (ordersIn sd fnd rs lv n)
-  row-none h e = e ∙ sym (rw (levels-count s sd fnd, le-leb most n h) (and-true (not (rule.occupied p (ordersIn sd fnd rs lv n)))))
+  pub row-none : {r : Bool} → most ≤ n → r ≡ not (rule.occupied p (ordersIn sd rs fnd lv n)) → r ≡ noRow most p (ordersIn sd rs fnd lv n)
+  row-none h e = e ∙ sym (rw (levels-count s sd fnd, le-leb most n h) (and-true (not (rule.occupied p (ordersIn sd rs fnd lv n)))))
 
 -- ## lengths that stay
 

@@ -8,6 +8,7 @@ use mathlib.Core.Option.{Option, none, some}
 use lib.Dec.{leb, ltb}
 use lib.ListN.{length}
 use borrow.Author.Tests.{leb-false, lt-leb, ltb-false}
+use Rattle.side.specs.Orders.{ordersIn}
 use Rattle.rules.specs.Rules as rule
 use Rattle.rules.specs.Rules.{Book, Order, Outcome, book, carried, firstOf, opposite, outcome, own, perform, refusal}
 use Rattle.rules.specs.Whole.{WholeBook}
@@ -28,7 +29,7 @@ use Rattle.ledger.specs.Desk.{Desk, Leaves, deskBook, found}
 use Rattle.ledger.specs.Doors.{RoomOn, restIn, sideOf as flag}
 use Rattle.whole.specs.Whole.{Lengths}
 use Rattle.whole.proofs.Desk.{desk-resting, open-place, desk-room}
-use Rattle.depth.specs.Sides.{Standing, ordersIn}
+use Rattle.depth.specs.Sides.{Standing}
 use Rattle.depth.proofs.Desk.{standing-bids, standing-asks}
 use Rattle.survey.specs.declared.Taker.{Taker}
 use Rattle.survey.specs.declared.Outlook.{Outlook}

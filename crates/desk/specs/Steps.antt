@@ -6,6 +6,7 @@ use mathlib.Core.Option.{none}
 use mathlib.Core.List.{List}
 use lib.Dec.{leb}
 use lib.ListN.{length}
+use Rattle.side.specs.Orders.{ordersIn}
 use Rattle.rules.specs.Rules as rule
 use Rattle.models.specs.declared.OrderEvent.the-variants.{Canceled}
 use Rattle.models.specs.declared.Statistics.{Statistics}
@@ -19,7 +20,7 @@ use Rattle.models.specs.declared.Side.the-variants.{Bid, Ask}
 use Rattle.records.specs.Rows.{places}
 use Rattle.models.specs.Rows.{fillRow, places as places′}
 use Rattle.order.specs.Decided.{decided, remains}
-use Rattle.depth.specs.Sides.{Standing, ordersIn}
+use Rattle.depth.specs.Sides.{Standing}
 use Rattle.survey.specs.declared.Taker.{Taker}
 use Rattle.survey.specs.declared.Outlook.{Outlook}
 use Rattle.survey.specs.Makers.{CanMatch}
@@ -46,7 +47,7 @@ noRow n p l = not (rule.occupied p l) && leb n (length (rule.levels l))
 
 -- r says so of the side stored in lv
 abbrev pub Crowds : ℕ → ℕ → List ℕ → ℕ → Bool → Type 0
-Crowds most p lv n r = (rs : List ℕ) (sd : rule.Side) (fnd : ℕ → Bool) → Standing rs lv n → r ≡ noRow most p (ordersIn sd fnd rs lv n)
+Crowds most p lv n r = (rs : List ℕ) (sd : rule.Side) (fnd : ℕ → Bool) → Standing rs lv n → r ≡ noRow most p (ordersIn sd rs fnd lv n)
 
 -- r says so of the side that the order t would rest on
 abbrev pub CrowdsOn : ℕ → Taker → OrderBook → List ℕ → List ℕ → Bool → Type 0

@@ -6,6 +6,7 @@ use mathlib.Core.Logic.{_≢_}
 use mathlib.Core.Path.{_≡_}
 use lib.Dec.{leb}
 use lib.ListN.{length}
+use Rattle.side.specs.Orders.{ordersIn}
 use Rattle.rules.specs.Rules.{Fill, lastPrice, lastQuantity, outcome}
 use Rattle.records.specs.Rows.{field, put}
 use Rattle.models.specs.Readings.{sideOf}
@@ -14,7 +15,7 @@ use Rattle.arena.specs.Times.{times}
 use Rattle.side.specs.Levels.{ups}
 use Rattle.side.specs.Read.{levelsIn}
 use Rattle.survey.specs.declared.Taker.{Taker}
-use Rattle.survey.specs.Makers.{CanMatch, ordersIn, share}
+use Rattle.survey.specs.Makers.{CanMatch, share}
 use Rattle.survey.specs.Taker.{metSide, takerOf}
 use Rattle.matching.specs.declared.Last.{Last}
 use Rattle.matching.specs.declared.Progress.{Progress}

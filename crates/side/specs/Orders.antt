@@ -5,6 +5,7 @@ use mathlib.Core.List.{List, [], _∷_}
 use Rattle.rules.specs.Rules.{Order, Side, ask, bid}
 use Rattle.records.specs.Rows.{field}
 use Rattle.side.specs.Levels.{Lvl, downs, ups}
+use Rattle.side.specs.Read.{levelsIn}
 
 -- the order at code c, and those at a list of codes; `fnd` says which the search finds
 abbrev pub orderAt : List ℕ → (ℕ → Bool) → ℕ → Order (Unit {0})
@@ -18,3 +19,7 @@ orders rs fnd (c ∷ l) = orderAt rs fnd c ∷ orders rs fnd l
 abbrev pub codes : Side → List Lvl → List ℕ
 codes bid ws = downs ws
 codes ask ws = ups ws
+
+-- the orders of side sd, stored in the n rows lv, best first
+abbrev pub ordersIn : Side → List ℕ → (ℕ → Bool) → List ℕ → ℕ → List (Order (Unit {0}))
+ordersIn sd rs fnd lv n = orders rs fnd (codes sd (levelsIn rs lv n))

@@ -16,13 +16,13 @@ use Rattle.arena.specs.Times.{times}
 use Rattle.arena.proofs.Once.{Ending}
 use Rattle.arena.proofs.Times.{one-self}
 use Rattle.side.specs.Levels.{nth, ups}
-use Rattle.side.specs.Orders.{codes, orders}
+use Rattle.side.specs.Orders.{codes, orders, ordersIn}
 use Rattle.side.specs.Read.{levelsIn}
 use Rattle.side.proofs.Levels.{nth-times}
 use Rattle.side.proofs.Orders.{codes-times}
 use Rattle.survey.specs.declared.Outlook.{Outlook}
 use Rattle.survey.specs.declared.Taker.{Taker}
-use Rattle.survey.specs.Makers.{CanMatch, ordersIn, turn}
+use Rattle.survey.specs.Makers.{CanMatch, turn}
 use Rattle.survey.specs.Surveyed.{met, surveyed}
 use Rattle.survey.specs.Taker.{kindOf, meets, metSide, takerOf}
 use Rattle.survey.proofs.Coming.{First, coming, coming-all, coming-none, coming-step, coming-worse, ending-first, ending-none, orders-all, run-ending}

@@ -11,10 +11,6 @@ use Rattle.side.specs.Levels.{Ladder, Lvl, ups}
 use Rattle.side.specs.Orders.{codes, orders}
 use Rattle.side.specs.Read.{levelsIn}
 
--- the orders of side sd, stored in the n rows lv, best first; `fnd` says which the search finds
-abbrev pub ordersIn : Side → List ℕ → (ℕ → Bool) → List ℕ → ℕ → List (Order (Unit {0}))
-ordersIn sd rs fnd lv n = orders rs fnd (codes sd (levelsIn rs lv n))
-
 -- the rows lv store the levels ws, and each code of them is a record's and stands there once
 pub record Laid (rs lv : List ℕ) (n : ℕ) (ws : List Lvl) : Type 0 where
   pub ladder : Ladder rs lv n ws

@@ -3,10 +3,11 @@
 ghost use mathlib.Core.Path.{_≡_};
 ghost use mathlib.Core.Bool.{Bool};
 ghost use Prim.Native.Nat.{ℕ, _<_, _≤_};
+ghost use Rattle.side.specs.Orders.{ordersIn};
 ghost use Rattle.rules.specs.Rules.{outcome};
 ghost use Rattle.records.specs.Rows.{Row};
 ghost use Rattle.survey.specs.Taker.{takerOf, metSide, meets};
-ghost use Rattle.survey.specs.Makers.{CanMatch, ordersIn, turn};
+ghost use Rattle.survey.specs.Makers.{CanMatch, turn};
 ghost use Rattle.survey.specs.Surveyed.{met, surveyed};
 use arena::HEAD;
 use arena::ROW;
