@@ -1,0 +1,351 @@
+//! Speed: ours and lobster on the same orders in one run, the cost of single calls, and how cost grows. Writes bench.md (tables)
+//! and growth.csv (for the plots).
+
+use crate::judge::order_of;
+use crate::plain::Plain;
+use crate::random::Random;
+use crate::shapes::{named, Draw};
+use crate::step::{limit, market, Step};
+use felavuti::{FillRow, OrderBook, OrderType, Side, Size, ORDERS, PRICES};
+use std::fmt::Write as _;
+use std::hint::black_box;
+use std::path::Path;
+use std::time::Instant;
+
+const SEED: u64 = 1;
+const SHAPES: [&str; 8] =
+    ["usual", "few-prices", "many-prices", "one-price", "sweeps", "market-heavy", "cancel-heavy", "full-book"];
+/// Calls of one kind in a row, so that the clock's own cost doesn't count.
+const BATCH: usize = 16;
+
+pub struct Plan {
+    pub orders: usize,
+    pub repetitions: usize,
+}
+
+/// Uses a value, so that the work behind it is done.
+fn hold<T>(value: T) {
+    let _ = black_box(value);
+}
+
+fn median(mut times: Vec<f64>) -> f64 {
+    times.sort_by(f64::total_cmp);
+    times[times.len() / 2]
+}
+
+/// This thread's processor time in nanoseconds: other programs on the computer don't count.
+#[cfg(target_os = "linux")]
+fn processor_time() -> f64 {
+    const OF_THE_THREAD: i32 = 3;
+    extern "C" {
+        fn clock_gettime(clock: i32, time: *mut [i64; 2]) -> i32;
+    }
+    let mut time = [0; 2];
+    // Sound: the C library writes seconds and nanoseconds to two numbers of 64 bits.
+    unsafe { clock_gettime(OF_THE_THREAD, &mut time) };
+    time[0] as f64 * 1e9 + time[1] as f64
+}
+
+#[cfg(not(target_os = "linux"))]
+fn processor_time() -> f64 {
+    static START: std::sync::OnceLock<Instant> = std::sync::OnceLock::new();
+    START.get_or_init(Instant::now).elapsed().as_secs_f64() * 1e9
+}
+
+/// Processor time of each of many things done by f.
+fn worked(n: usize, f: impl FnOnce()) -> f64 {
+    let start = processor_time();
+    f();
+    (processor_time() - start) / n as f64
+}
+
+/// Nanoseconds by the clock for each of n things done by f.
+fn nanoseconds(n: usize, f: impl FnOnce()) -> f64 {
+    let start = Instant::now();
+    f();
+    start.elapsed().as_secs_f64() * 1e9 / n as f64
+}
+
+/// So many accepted orders of a shape, from a fixed seed. Tracking is switched once, at the start.
+fn orders(name: &str, count: usize) -> (bool, Vec<OrderType>) {
+    let shape = named(name).expect("a shape of the list");
+    let mut draw = Draw::new(Random::of_history(SEED, name, 0));
+    let mut plain = Plain::new(Size::BASE);
+    plain.tracking = shape.tracking;
+    let mut orders = vec![];
+    while orders.len() < count {
+        if let step @ Step::Order(order) = draw.step(shape, &plain) {
+            if plain.carry_out(step, ORDERS).is_ok() {
+                orders.push(order);
+            }
+        }
+    }
+    (shape.tracking, orders)
+}
+
+/// One shape: nanoseconds an order for ours, ours with lent rows, and lobster, in turn, over and over.
+fn shape(plan: &Plan, name: &str) -> String {
+    let (tracking, ours) = orders(name, plan.orders);
+    let theirs: Vec<lobster::OrderType> = ours.iter().map(|&order| order_of(order)).collect();
+    let mut times = [vec![], vec![], vec![]];
+    let mut ratios = [vec![], vec![]];
+    for _ in 0..plan.repetitions {
+        let mut book = OrderBook::new(tracking);
+        let plain = worked(ours.len(), || ours.iter().for_each(|&order| hold(book.execute(order))));
+        let mut book = OrderBook::new(tracking);
+        let mut rows = vec![FillRow::default(); ORDERS];
+        let lent = worked(ours.len(), || ours.iter().for_each(|&order| hold(book.execute_into(order, &mut rows))));
+        let mut book = lobster::OrderBook::default();
+        book.track_stats(tracking);
+        let lobster = worked(ours.len(), || theirs.iter().for_each(|&order| hold(book.execute(order))));
+        for (list, time) in times.iter_mut().zip([plain, lent, lobster]) {
+            list.push(time);
+        }
+        ratios[0].push(plain / lobster);
+        ratios[1].push(lent / lobster);
+    }
+    let spread = |list: &[f64]| (list.iter().copied().fold(f64::MAX, f64::min), list.iter().copied().fold(0.0, f64::max));
+    let (least, most) = spread(&ratios[0]);
+    let [plain, lent, lobster] = times.map(median);
+    let [ratio, lent_ratio] = ratios.map(median);
+    println!("  {name:14} ours {plain:8.0} ns, lent {lent:8.0} ns, lobster {lobster:8.0} ns an order, ratio {ratio:.2}");
+    format!("| {name} | {plain:.0} | {lent:.0} | {lobster:.0} | **{ratio:.2}** | {least:.2} to {most:.2} | {lent_ratio:.2} |\n")
+}
+
+/// A desk that is timed.
+trait Timed {
+    fn carry_out(&mut self, step: Step);
+    fn min_ask(&self) -> Option<u64>;
+    fn depth(&self) -> usize;
+    fn get(&self, _id: u64) -> Option<u64> {
+        None
+    }
+}
+
+impl Timed for OrderBook {
+    fn carry_out(&mut self, step: Step) {
+        match step {
+            Step::Order(order) => hold(self.execute(order).expect("the benchmark draws no refused order")),
+            Step::Track(on) => self.track_stats(on),
+        }
+    }
+    fn min_ask(&self) -> Option<u64> {
+        OrderBook::min_ask(self)
+    }
+    fn depth(&self) -> usize {
+        OrderBook::depth(self, 1).map_or(0, |depth| depth.asks.len())
+    }
+    fn get(&self, id: u64) -> Option<u64> {
+        OrderBook::get(self, id).order.map(|order| order.qty)
+    }
+}
+
+impl Timed for lobster::OrderBook {
+    fn carry_out(&mut self, step: Step) {
+        match step {
+            Step::Order(order) => hold(self.execute(order_of(order))),
+            Step::Track(on) => self.track_stats(on),
+        }
+    }
+    fn min_ask(&self) -> Option<u64> {
+        lobster::OrderBook::min_ask(self)
+    }
+    fn depth(&self) -> usize {
+        lobster::OrderBook::depth(self, 1).asks.len()
+    }
+}
+
+/// A book with so many orders over so many prices a side; ids count from 1, quantities are 10.
+fn filled<D: Timed>(mut desk: D, resting: u64, prices: u64) -> D {
+    for id in 1..=resting {
+        let place = (id - 1) / 2 % prices;
+        match id % 2 {
+            0 => desk.carry_out(limit(id, Side::Bid, 10, 10_000 - place)),
+            _ => desk.carry_out(limit(id, Side::Ask, 10, 20_000 + place)),
+        }
+    }
+    desk
+}
+
+/// Nanoseconds for a limit order that rests at a price, and for its cancel.
+fn rest_and_cancel<D: Timed>(desk: &mut D, price: u64, repetitions: usize) -> [f64; 2] {
+    let ids = 1_000_000..1_000_000 + BATCH as u64;
+    let (mut rests, mut cancels) = (vec![], vec![]);
+    for _ in 0..repetitions {
+        rests.push(nanoseconds(BATCH, || ids.clone().for_each(|id| desk.carry_out(limit(id, Side::Ask, 10, price)))));
+        cancels.push(nanoseconds(BATCH, || ids.clone().for_each(|id| desk.carry_out(crate::step::cancel(id)))));
+    }
+    [median(rests), median(cancels)]
+}
+
+/// Nanoseconds for a market order that uses up one maker, at a price better than all others.
+fn take_one<D: Timed>(desk: &mut D, repetitions: usize) -> f64 {
+    let ids = 1_000_000..1_000_000 + BATCH as u64;
+    let mut times = vec![];
+    for _ in 0..repetitions {
+        ids.clone().for_each(|id| desk.carry_out(limit(id, Side::Ask, 10, 15_000)));
+        times.push(nanoseconds(BATCH, || ids.clone().for_each(|id| desk.carry_out(market(id, Side::Bid, 10)))));
+    }
+    median(times)
+}
+
+/// Nanoseconds for a question.
+fn question(repetitions: usize, mut f: impl FnMut()) -> f64 {
+    median((0..repetitions).map(|_| nanoseconds(BATCH, || (0..BATCH).for_each(|_| f()))).collect())
+}
+
+/// What single calls cost on a book with so many resting orders: name, nanoseconds.
+fn calls<D: Timed>(desk: D, resting: u64, n: usize) -> Vec<(&'static str, f64)> {
+    let mut desk = filled(desk, resting, 64);
+    let [rest, cancelled] = rest_and_cancel(&mut desk, 20_005, n);
+    let taken = take_one(&mut desk, n);
+    vec![
+        ("lowest ask", question(n, || hold(desk.min_ask()))),
+        ("search for an id", question(n, || hold(desk.get(1)))),
+        ("depth", question(n, || hold(desk.depth()))),
+        ("market order of 0", question(n, || desk.carry_out(market(5, Side::Bid, 0)))),
+        ("market order, one maker used up", taken),
+        ("limit order that rests", rest),
+        ("cancel of it", cancelled),
+        ("cancel of nothing", question(n, || desk.carry_out(crate::step::cancel(999)))),
+    ]
+}
+
+fn single_calls(repetitions: usize) -> String {
+    let full = (ORDERS - BATCH) as u64;
+    let mut out = String::from(
+        "| call | resting orders | ours, ns | share of the check | lobster, ns | ratio |\n|---|---|---|---|---|---|\n",
+    );
+    for resting in [0, full / 2, full] {
+        let ours = calls(OrderBook::default(), resting, repetitions);
+        let theirs = calls(lobster::OrderBook::default(), resting, repetitions);
+        let check = ours[0].1;
+        for ((name, time), (_, other)) in ours.iter().zip(&theirs) {
+            let share = (100.0 * check / time).min(100.0);
+            let (other, ratio) = match *name {
+                "search for an id" => ("-".into(), "-".into()),
+                _ => (format!("{other:.0}"), format!("{:.1}", time / other.max(0.1))),
+            };
+            writeln!(out, "| {name} | {resting} | {time:.0} | {share:.0} % | {other} | {ratio} |")
+                .expect("a string takes any text");
+        }
+        println!("  single calls with {resting} resting: the check takes about {check:.0} ns");
+    }
+    out
+}
+
+/// Gives a desk the steps that make a book.
+type Build<'a> = &'a dyn Fn(&mut dyn FnMut(Step));
+
+/// How cost grows. Each row: what grows, how much there is of it, the call, ours and lobster in nanoseconds.
+struct Growth {
+    repetitions: usize,
+    rows: String,
+}
+
+impl Growth {
+    fn row(&mut self, grows: &str, size: u64, call: &str, ours: f64, lobster: f64) {
+        writeln!(self.rows, "{grows},{size},{call},{ours:.1},{lobster:.1}").expect("a string takes any text");
+    }
+
+    fn both(build: Build) -> (OrderBook, lobster::OrderBook) {
+        let (mut ours, mut theirs) = (OrderBook::default(), lobster::OrderBook::default());
+        build(&mut |step| ours.carry_out(step));
+        build(&mut |step| theirs.carry_out(step));
+        (ours, theirs)
+    }
+
+    /// An order that rests at a price, its cancel, and one that takes a maker, on the book that was built.
+    fn calls(&mut self, grows: &str, size: u64, price: u64, build: Build) {
+        let (mut ours, mut theirs) = Growth::both(build);
+        let [rest, cancel] = rest_and_cancel(&mut ours, price, self.repetitions);
+        let [their_rest, their_cancel] = rest_and_cancel(&mut theirs, price, self.repetitions);
+        let (take, their_take) = (take_one(&mut ours, self.repetitions), take_one(&mut theirs, self.repetitions));
+        self.row(grows, size, "rest", rest, their_rest);
+        self.row(grows, size, "cancel", cancel, their_cancel);
+        self.row(grows, size, "take", take, their_take);
+    }
+
+    /// A market order on a book in which so many prices were used and are empty again.
+    fn emptied(&mut self, size: u64) {
+        let (mut ours, mut theirs) = Growth::both(&|give| {
+            for first in (0..size).step_by(100) {
+                let last = size.min(first + 100);
+                (first..last).for_each(|price| give(limit(1, Side::Ask, 1, 30_000 + price)));
+                give(market(2, Side::Bid, last - first));
+            }
+        });
+        let few = if size > 1_000 { (self.repetitions / 10).max(3) } else { self.repetitions };
+        let time = question(few, || ours.carry_out(market(5, Side::Bid, 1)));
+        let their_time = question(few, || theirs.carry_out(market(5, Side::Bid, 1)));
+        self.row("prices used before", size, "market order", time, their_time);
+    }
+}
+
+fn growth(repetitions: usize) -> String {
+    let mut growth = Growth { repetitions, rows: "grows,size,call,ours,lobster\n".into() };
+    let sizes = [1, 2, 4, 8, 16, 32, 64, 128, 256, 512, 1_000];
+    for size in sizes {
+        growth
+            .calls("orders at one price", size, 20_000, &|give| (1..=size).for_each(|id| give(limit(id, Side::Ask, 10, 20_000))));
+    }
+    for size in [1, 2, 4, 8, 16, 32, 64, PRICES as u64 - 1] {
+        growth.calls("prices", size, 20_000, &|give| (1..=size).for_each(|id| give(limit(id, Side::Ask, 10, 20_000 + id))));
+    }
+    for size in sizes {
+        let prices = (size / 8).clamp(1, PRICES as u64 / 2);
+        growth.calls("resting orders", size, 20_001, &|give| {
+            (0..size).for_each(|id| give(limit(id + 1, Side::Ask, 10, 20_001 + id % prices)));
+        });
+    }
+    [1, 10, 100, 1_000, 10_000, 100_000].into_iter().for_each(|size| growth.emptied(size));
+    growth.rows
+}
+
+/// What was measured, with what, on what.
+fn setting() -> String {
+    let about = std::fs::read_to_string("/proc/cpuinfo").unwrap_or_default();
+    let computer = about
+        .lines()
+        .find_map(|line| line.strip_prefix("model name"))
+        .map_or("unknown", |name| name.trim_start_matches([' ', '\t', ':']));
+    format!(
+        "Processor: {computer}. Ours: libffi.a as `rt staticlib ffi` makes it, called through the safe wrapper. The wrapper and lobster: {}, opt-level 3, without \
+         link-time optimisation; lobster's sums wrap, as in any release build. Buffers for fills are made once with the book and never cleared; each order of \
+         ours checks the whole book first.\n\n",
+        env!("RUSTC_VERSION")
+    )
+}
+
+pub fn run(plan: &Plan, folder: &Path) -> Result<(), String> {
+    std::fs::create_dir_all(folder).map_err(|error| format!("{}: {error}", folder.display()))?;
+    println!(
+        "speed: {} orders a shape, seed {SEED}, median of {} repetitions, ours and lobster in turn",
+        plan.orders, plan.repetitions
+    );
+    let mut text = format!(
+        "{}## {} orders a shape\n\nNanoseconds an order (processor time), median of {} repetitions on fresh books, ours and lobster in turn, seed {SEED}. `lent`: ours with \
+         fills in lent rows instead of a new Vec an order. Ratio: ours / lobster, median (least to most).\n\n\
+         | shape | ours | lent | lobster | ratio | from, to | lent / lobster |\n|---|---|---|---|---|---|---|\n",
+        setting(),
+        plan.orders,
+        plan.repetitions
+    );
+    SHAPES.iter().for_each(|name| text += &shape(plan, name));
+    let repetitions = 40 * plan.repetitions;
+    write!(
+        text,
+        "\n## Single calls\n\nMedian of {repetitions} batches of {BATCH}; {} is as full as a batch of resting orders allows. The share of the check is the cost of \
+         `lowest ask` (the check and one look) in the call's cost.\n\n{}",
+        ORDERS - BATCH,
+        single_calls(repetitions)
+    )
+    .expect("a string takes any text");
+    let growth = growth(repetitions);
+    for (name, content) in [("bench.md", &text), ("growth.csv", &growth)] {
+        let path = folder.join(name);
+        std::fs::write(&path, content).map_err(|error| format!("{}: {error}", path.display()))?;
+        println!("  written: {}", path.display());
+    }
+    crate::plot::run(folder)
+}

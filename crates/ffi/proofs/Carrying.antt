@@ -1,0 +1,44 @@
+-- A call carried out on the small values read from the lent numbers is carried out on what these numbers mean. Assumes nothing.
+use Prim.Native.Nat.{ℕ}
+use mathlib.Core.Option.{Option}
+use mathlib.Core.Path.{_≡_, subst}
+use mathlib.Core.List.{List}
+use Rattle.rules.specs.Rules as rule
+use Rattle.models.specs.declared.Statistics.{Statistics}
+use Rattle.ledger.specs.declared.OrderBook.{OrderBook}
+use Rattle.desk.specs.declared.Answer.{Answer}
+use Rattle.calls.specs.declared.Quoted.{Quoted}
+use Rattle.calls.specs.declared.Deep.{Deep}
+use Rattle.calls.specs.declared.Got.{Got}
+use Rattle.calls.specs.Calls.{Executes, Tells, Shows, Finds}
+use Rattle.ffi.specs.Numbers.{bookIn, statisticsIn}
+use Rattle.ffi.specs.Exports.{stock, Reported, Carried, Quotes, Asked, Depths, Deepened, Looks, Sought}
+
+pub carried : {c : rule.Call (Unit {0})} {d rs bd ak se out an : List ℕ} {n : ℕ} {d′ rs′ bd′ ak′ se′ out′ an′ : List ℕ} {b b′ : OrderBook} {st st′ : Statistics} {a : Answer}
+    → b ≡ bookIn d → st ≡ statisticsIn d
+    → Executes rule.hall c (stock b rs bd ak se) st out a (stock b′ rs′ bd′ ak′ se′) st′ out′ → Reported d an a b′ st′ n d′ an′
+    → Carried c d rs bd ak se out an n d′ rs′ bd′ ak′ se′ out′ an′
+carried {c = c} {d = d} {rs = rs} {bd = bd} {ak = ak} {se = se} {out = out} {rs′ = rs′} {bd′ = bd′} {ak′ = ak′} {se′ = se′} {out′ = out′} {b = b} {b′ = b′} {st = st} {st′ = st′} {a = a} eb es x r =
+    record {
+      answer = a;
+      book = b′;
+      statistics = st′;
+      executes = subst (λ (y : OrderBook). Executes rule.hall c (stock y rs bd ak se) (statisticsIn d) out a (stock b′ rs′ bd′ ak′ se′) st′ out′) eb
+          (subst (λ (y : Statistics). Executes rule.hall c (stock b rs bd ak se) y out a (stock b′ rs′ bd′ ak′ se′) st′ out′) es x);
+      reported = r;
+    }
+
+pub asked : {f : rule.Book (Unit {0}) → Option ℕ} {d rs bd ak se an : List ℕ} {n : ℕ} {an′ : List ℕ} {b : OrderBook} {a : Quoted}
+    → b ≡ bookIn d → Tells rule.hall f (stock b rs bd ak se) a → Quotes an a n an′ → Asked f d rs bd ak se an n an′
+asked {f = f} {rs = rs} {bd = bd} {ak = ak} {se = se} {a = a} eb x r =
+    record { answer = a; tells = subst (λ (y : OrderBook). Tells rule.hall f (stock y rs bd ak se) a) eb x; reported = r }
+
+pub deepened : {l : ℕ} {d rs bd ak se out an : List ℕ} {n : ℕ} {out′ an′ : List ℕ} {b : OrderBook} {a : Deep}
+    → b ≡ bookIn d → Shows rule.hall l (stock b rs bd ak se) out a out′ → Depths an a n an′ → Deepened l d rs bd ak se out an n out′ an′
+deepened {l = l} {rs = rs} {bd = bd} {ak = ak} {se = se} {out = out} {out′ = out′} {a = a} eb x r =
+    record { answer = a; shows = subst (λ (y : OrderBook). Shows rule.hall l (stock y rs bd ak se) out a out′) eb x; reported = r }
+
+pub sought : {i : ℕ} {d rs bd ak se an : List ℕ} {n : ℕ} {an′ : List ℕ} {b : OrderBook} {a : Got}
+    → b ≡ bookIn d → Finds rule.hall i (stock b rs bd ak se) a → Looks an a n an′ → Sought i d rs bd ak se an n an′
+sought {i = i} {rs = rs} {bd = bd} {ak = ak} {se = se} {a = a} eb x r =
+    record { answer = a; finds = subst (λ (y : OrderBook). Finds rule.hall i (stock y rs bd ak se) a) eb x; reported = r }
