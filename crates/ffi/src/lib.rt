@@ -174,11 +174,11 @@ pub extern "C" fn felavuti_cancel(
 // The lowest ask.
 #[no_mangle]
 pub extern "C" fn felavuti_min_ask(
-    desk: & [u64; DESK],
-    records: & [u64],
-    bids: & [u64],
-    asks: & [u64],
-    search: & [u64],
+    desk: &[u64; DESK],
+    records: &[u64],
+    bids: &[u64],
+    asks: &[u64],
+    search: &[u64],
     answer: &mut [u64; ANSWER],
 ) -> u64
     ensures { λ r. ⌜ Asked lowestAsk (now (desk .entry)) (now (records .entry)) (now (bids .entry)) (now (asks .entry)) (now (search .entry)) (now (answer .entry)) r (now (answer .exit)) ⌝ }
@@ -195,11 +195,11 @@ pub extern "C" fn felavuti_min_ask(
 // The highest bid.
 #[no_mangle]
 pub extern "C" fn felavuti_max_bid(
-    desk: & [u64; DESK],
-    records: & [u64],
-    bids: & [u64],
-    asks: & [u64],
-    search: & [u64],
+    desk: &[u64; DESK],
+    records: &[u64],
+    bids: &[u64],
+    asks: &[u64],
+    search: &[u64],
     answer: &mut [u64; ANSWER],
 ) -> u64
     ensures { λ r. ⌜ Asked highestBid (now (desk .entry)) (now (records .entry)) (now (bids .entry)) (now (asks .entry)) (now (search .entry)) (now (answer .entry)) r (now (answer .exit)) ⌝ }
@@ -216,11 +216,11 @@ pub extern "C" fn felavuti_max_bid(
 // The lowest ask less the highest bid, where both are there.
 #[no_mangle]
 pub extern "C" fn felavuti_spread(
-    desk: & [u64; DESK],
-    records: & [u64],
-    bids: & [u64],
-    asks: & [u64],
-    search: & [u64],
+    desk: &[u64; DESK],
+    records: &[u64],
+    bids: &[u64],
+    asks: &[u64],
+    search: &[u64],
     answer: &mut [u64; ANSWER],
 ) -> u64
     ensures { λ r. ⌜ Asked spreadOf (now (desk .entry)) (now (records .entry)) (now (bids .entry)) (now (asks .entry)) (now (search .entry)) (now (answer .entry)) r (now (answer .exit)) ⌝ }
@@ -237,11 +237,11 @@ pub extern "C" fn felavuti_spread(
 // Every occupied price with its total: asks from the start of `out`, then bids, both ascending.
 #[no_mangle]
 pub extern "C" fn felavuti_depth(
-    desk: & [u64; DESK],
-    records: & [u64],
-    bids: & [u64],
-    asks: & [u64],
-    search: & [u64],
+    desk: &[u64; DESK],
+    records: &[u64],
+    bids: &[u64],
+    asks: &[u64],
+    search: &[u64],
     out: &mut [u64],
     levels: usize,
     answer: &mut [u64; ANSWER],
@@ -260,11 +260,11 @@ pub extern "C" fn felavuti_depth(
 // The order that the search finds under the id.
 #[no_mangle]
 pub extern "C" fn felavuti_get(
-    desk: & [u64; DESK],
-    records: & [u64],
-    bids: & [u64],
-    asks: & [u64],
-    search: & [u64],
+    desk: &[u64; DESK],
+    records: &[u64],
+    bids: &[u64],
+    asks: &[u64],
+    search: &[u64],
     id: u64,
     answer: &mut [u64; ANSWER],
 ) -> u64

@@ -115,7 +115,20 @@ pub fn written(book: OrderBook, statistics: Statistics) -> [u64; DESK]
     let last = statistics.last;
     match last {
         LastTrade::Absent => {
-            [book.resting as u64, book.free, book.bids as u64, book.asks as u64, tracking, volume, 0, 0, 0, 0, 0, 0]
+            [
+                book.resting as u64,
+                book.free,
+                book.bids as u64,
+                book.asks as u64,
+                tracking,
+                volume,
+                0,
+                0,
+                0,
+                0,
+                0,
+                0,
+            ]
         }
         LastTrade::Present(t) => {
             let average = models::bits::bits_of(t.avg_price);
@@ -144,10 +157,16 @@ pub fn event_numbers(event: OrderEvent) -> [u64; ANSWER]
         OrderEvent::Unfilled { id } => [UNFILLED, id.0, 0, 0],
         OrderEvent::Placed { id } => [PLACED, id.0, 0, 0],
         OrderEvent::Canceled { id } => [CANCELED, id.0, 0, 0],
-        OrderEvent::PartiallyFilled { id, filled_qty, fills } => {
-            [PARTIALLY_FILLED, id.0, filled_qty.0, fills as u64]
-        }
-        OrderEvent::Filled { id, filled_qty, fills } => [FILLED, id.0, filled_qty.0, fills as u64],
+        OrderEvent::PartiallyFilled {
+            id,
+            filled_qty,
+            fills,
+        } => { [PARTIALLY_FILLED, id.0, filled_qty.0, fills as u64] }
+        OrderEvent::Filled {
+            id,
+            filled_qty,
+            fills,
+        } => [FILLED, id.0, filled_qty.0, fills as u64],
     }
 }
 

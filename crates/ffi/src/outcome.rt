@@ -1,9 +1,9 @@
 // What an exported call returns and leaves, by value: after a refusal the numbers that were lent, as they were.
 ghost use mathlib.Core.Path.{_≡_};
 ghost use Rattle.ffi.specs.Exports.{Reported, Quotes, Depths, Looks, Opens, sideIn};
+use crate::numbers;
 use crate::numbers::ANSWER;
 use crate::numbers::DESK;
-use crate::numbers;
 use calls::Deep;
 use calls::Got;
 use calls::Opening;
@@ -48,7 +48,11 @@ pub fn executed(desk: [u64; DESK], answer: [u64; ANSWER], done: Executed) -> Out
         Answer::Done(event) => {
             let after = numbers::written(book, statistics);
             let numbers = numbers::event_numbers(event);
-            Outcome { code: ACCEPTED, desk: after, answer: numbers }
+            Outcome {
+                code: ACCEPTED,
+                desk: after,
+                answer: numbers,
+            }
         }
     }
 }
@@ -60,7 +64,10 @@ pub fn quoted(answer: [u64; ANSWER], told: Quoted) -> Reply
         Quoted::Refused(code) => Reply { code, answer },
         Quoted::Told(quote) => {
             let numbers = numbers::quote_numbers(quote);
-            Reply { code: ACCEPTED, answer: numbers }
+            Reply {
+                code: ACCEPTED,
+                answer: numbers,
+            }
         }
     }
 }
@@ -72,7 +79,10 @@ pub fn deepened(answer: [u64; ANSWER], told: Deep) -> Reply
         Deep::Refused(code) => Reply { code, answer },
         Deep::Told(depth) => {
             let numbers = numbers::depth_numbers(depth);
-            Reply { code: ACCEPTED, answer: numbers }
+            Reply {
+                code: ACCEPTED,
+                answer: numbers,
+            }
         }
     }
 }
@@ -84,7 +94,10 @@ pub fn looked(answer: [u64; ANSWER], told: Got) -> Reply
         Got::Refused(code) => Reply { code, answer },
         Got::Told(look) => {
             let numbers = numbers::look_numbers(look);
-            Reply { code: ACCEPTED, answer: numbers }
+            Reply {
+                code: ACCEPTED,
+                answer: numbers,
+            }
         }
     }
 }
@@ -96,7 +109,10 @@ pub fn opened(desk: [u64; DESK], told: Opening) -> Start
         Opening::Refused(code) => Start { code, desk },
         Opening::Made(book, statistics) => {
             let after = numbers::written(book, statistics);
-            Start { code: ACCEPTED, desk: after }
+            Start {
+                code: ACCEPTED,
+                desk: after,
+            }
         }
     }
 }

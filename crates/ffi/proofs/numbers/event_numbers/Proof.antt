@@ -1,46 +1,35 @@
+-- `ffi::numbers::event_numbers` meets its contract: its numbers are those of the definition. Assumes nothing.
 use borrow.Author.Needs.{needs}
 use Rattle.ffi.proofs.numbers.event_numbers.Statement.{statement}
 use Rattle.ffi.proofs.numbers.event_numbers.Tie as tie
-use Rattle.ffi.proofs.numbers.event_numbers.Reads as reads
-use Rattle.ffi.proofs.numbers.event_numbers.Lts as lts
 
--- src/numbers.rt:144:32
 enum-known-event : tie.Need-enum-known-event
 enum-known-event c = search needs
 
--- src/numbers.rt:145:30
 enum-known-event-2 : tie.Need-enum-known-event-2
 enum-known-event-2 c = search needs
 
--- src/numbers.rt:146:32
 enum-known-event-3 : tie.Need-enum-known-event-3
 enum-known-event-3 c = search needs
 
--- src/numbers.rt:147:39
 enum-known-event-4 : tie.Need-enum-known-event-4
 enum-known-event-4 c = search needs
 
--- src/numbers.rt:150:30
 enum-known-event-5 : tie.Need-enum-known-event-5
 enum-known-event-5 c = search needs
 
--- src/numbers.rt:140:1
 returns : tie.Need-returns
 returns c = rw (c .before .event .given .1)
 
--- src/numbers.rt:140:1
 returns-2 : tie.Need-returns-2
 returns-2 c = rw (c .before .event2 .given .1)
 
--- src/numbers.rt:140:1
 returns-3 : tie.Need-returns-3
 returns-3 c = rw (c .before .event3 .given .1)
 
--- src/numbers.rt:140:1
 returns-4 : tie.Need-returns-4
 returns-4 c = rw (c .before .event4 .given .1)
 
--- src/numbers.rt:140:1
 returns-5 : tie.Need-returns-5
 returns-5 c = rw (c .before .event5 .given .1)
 

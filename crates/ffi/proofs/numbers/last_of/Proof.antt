@@ -1,24 +1,18 @@
+-- `ffi::numbers::last_of` meets its contract: its numbers are those of the definition. Assumes nothing.
 use borrow.Author.Tests.{eq-eqb, ne-eqb}
 use borrow.Author.Needs.{needs}
 use Rattle.ffi.proofs.numbers.last_of.Statement.{statement}
 use Rattle.ffi.proofs.numbers.last_of.Tie as tie
-use Rattle.ffi.proofs.numbers.last_of.Reads as reads
-use Rattle.ffi.proofs.numbers.last_of.Lts as lts
-use Rattle.ffi.proofs.numbers.trade_of.Reads as trade-of-reads
 
--- src/numbers.rt:85:8
 array-read-if1 : tie.Need-array-read-if1
 array-read-if1 c = search needs
 
--- src/numbers.rt:86:9
 returns : tie.Need-returns
 returns c = simp (eq-eqb _ _ (c .if1 .taken))
 
--- src/numbers.rt:88:9
 trade-of-requires : tie.Need-trade-of-requires
 trade-of-requires c κs = search needs
 
--- src/numbers.rt:82:1
 returns-2 : tie.Need-returns-2
 returns-2 c = simp (ne-eqb _ _ (c .before .if1 .left), c .trade-of .ensures)
 

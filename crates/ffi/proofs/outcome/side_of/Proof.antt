@@ -1,15 +1,12 @@
+-- `ffi::outcome::side_of` meets its contract: each case of the answer is the definition's case. Assumes nothing.
 use borrow.Author.Tests.{eq-eqb, ne-eqb}
 use borrow.Author.Needs.{needs}
 use Rattle.ffi.proofs.outcome.side_of.Statement.{statement}
 use Rattle.ffi.proofs.outcome.side_of.Tie as tie
-use Rattle.ffi.proofs.outcome.side_of.Reads as reads
-use Rattle.ffi.proofs.outcome.side_of.Lts as lts
 
--- src/outcome.rt:34:1
 returns : tie.Need-returns
 returns c = simp (eq-eqb _ _ (c .if1 .taken))
 
--- src/outcome.rt:34:1
 returns-2 : tie.Need-returns-2
 returns-2 c = simp (ne-eqb _ _ (c .if1 .left))
 
