@@ -1,29 +1,26 @@
 -- Every book reached from a fresh one by public calls is whole, and its desk is the rules' end of that history; so the demands hold for the code.
 -- Assumes nothing.
-use Prim.Native.Nat.{ℕ, zero, suc}
+use Prim.Native.Nat.{ℕ}
 use mathlib.Core.Path.{_≡_, refl, sym, ap, subst, _∙_}
 use mathlib.Core.Bool.{Bool, true, false}
 use mathlib.Core.List.{List, [], _∷_}
-use lib.ListN.{length, take}
+use lib.ListN.{take}
 use Rattle.rules.specs.Rules as rule
 use Rattle.rules.specs.Whole.{Whole}
 use Rattle.rules.specs.Turns.{Demand2}
-use Rattle.rules.specs.Late.{plain, Names, refuses, fillsOf, rests, Alike, Histories, unmark, turn, share, answerTo, plainly, Alone}
+use Rattle.rules.specs.Late.{plain, Names, refuses, rests, Alike, Histories, unmark, turn, plainly}
 use Rattle.rules.proofs.Basics.{not-both}
-use Rattle.rules.proofs.Reached.{whole-end}
 use Rattle.rules.proofs.Demand2.{refused-same, demand2}
 use Rattle.rules.proofs.Plain.{alone}
-use Rattle.models.specs.declared.OrderType.{OrderType}
 use Rattle.models.specs.declared.OrderEvent.{OrderEvent}
 use Rattle.models.specs.declared.Statistics.{Statistics}
-use Rattle.models.specs.Readings.{eventOf, statisticsOf}
 use Rattle.models.specs.Rows.{fillRow, written}
 use Rattle.desk.specs.declared.Answer.{Answer}
 use Rattle.desk.specs.declared.Answer.the-variants.{Refused, Done}
 use Rattle.desk.specs.Stock.{Stock, bookIn, deskIn}
-use Rattle.desk.specs.Performs.{answerOf, Performs, refused, carried}
-use Rattle.calls.specs.Calls.{WholeStock, Executes, broken, performed, Begins}
-use Rattle.calls.specs.History.{callWith, switch, Reached, begun, called, switched, Follows2, Follows3}
+use Rattle.desk.specs.Performs.{answerOf, refused, carried}
+use Rattle.calls.specs.Calls.{WholeStock, Executes, broken, performed}
+use Rattle.calls.specs.History.{callWith, Reached, begun, called, switched, Follows2, Follows3}
 
 -- what a call leaves is the rules' desk after it
 module _ {z : rule.Size} {c : rule.Call (Unit {0})} {k k′ : Stock} {st st′ : Statistics} {out out′ : List ℕ} {a : Answer} where

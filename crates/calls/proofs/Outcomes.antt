@@ -8,7 +8,6 @@ use lib.ListN.{length}
 use Rattle.rules.specs.Rules as rule
 use Rattle.rules.specs.Late.{refuses, fillsOf}
 use Rattle.rules.proofs.Basics.{not-both}
-use Rattle.models.specs.declared.OrderEvent.{OrderEvent}
 use Rattle.models.specs.declared.Statistics.{Statistics}
 use Rattle.models.specs.Readings.{eventOf}
 use Rattle.models.specs.Rows.{fillRow, levelRow, written}

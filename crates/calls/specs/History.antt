@@ -1,9 +1,9 @@
 -- Books reached from a fresh one by public calls, each step meeting its contract; and the demands as they read for such books. Assumes nothing.
 use Prim.Native.Nat.{ℕ}
 use mathlib.Core.Path.{_≡_}
-use mathlib.Core.Bool.{Bool, true, false}
+use mathlib.Core.Bool.{Bool, true}
 use mathlib.Core.List.{List, [], _∷_}
-use lib.ListN.{length, take}
+use lib.ListN.{take}
 use Rattle.rules.specs.Rules as rule
 use Rattle.rules.specs.Turns.{Demand2}
 use Rattle.rules.specs.Late.{plain, fillsOf, rests, turn, share, answerTo}
@@ -13,7 +13,7 @@ use Rattle.models.specs.declared.Statistics.{Statistics}
 use Rattle.models.specs.Readings.{callOf}
 use Rattle.models.specs.Rows.{fillRow, places, written}
 use Rattle.desk.specs.declared.Answer.{Answer}
-use Rattle.desk.specs.declared.Answer.the-variants.{Refused, Done}
+use Rattle.desk.specs.declared.Answer.the-variants.{Done}
 use Rattle.desk.specs.Stock.{Stock, deskIn}
 use Rattle.desk.specs.Performs.{answerOf}
 use Rattle.calls.specs.Calls.{Executes, Begins}

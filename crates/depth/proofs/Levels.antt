@@ -9,8 +9,9 @@ use native.Mathlib.Numerals.{add-one}
 use native.Mathlib.Omega.{arith}
 use lib.Dec.{eqb}
 use lib.ListN.{length, length-append}
-use borrow.Author.Tests.{eq-eqb, ne-eqb}
+use borrow.Author.Tests.{eq-eqb}
 use Rattle.rules.specs.Rules.{Level, Side, ask, bid, joined, levels}
+use Rattle.rules.proofs.Loops.{joined-new}
 use Rattle.records.specs.Rows.{field, places}
 use Rattle.arena.specs.Links.{headOf, priceOf}
 use Rattle.arena.specs.Times.{times}
@@ -24,15 +25,6 @@ use Rattle.ledger.specs.Desk.{Busy}
 use Rattle.depth.specs.Sides.{Standing, ascending, quantities, queueIn}
 
 -- ## levels of lists of orders
-joined-new : (p q n r : ℕ) (l : List Level) → p ≢ n → joined p q (joined n r l) ≡ record { price = p; total = q } ∷ joined n r l
-joined-new p q n r [] h = rw (ne-eqb p n h)
-joined-new p q n r (v ∷ l) h = go (eqb n (v .price))
-  where
-    go : (b : Bool) → joined p q (cond b (record { price = n; total = r + v .total } ∷ l) (record { price = n; total = r } ∷ v ∷ l))
-        ≡ record { price = p; total = q } ∷ cond b (record { price = n; total = r + v .total } ∷ l) (record { price = n; total = r } ∷ v ∷ l)
-    go true = rw (ne-eqb p n h)
-    go false = rw (ne-eqb p n h)
-
 joined-cons : (p q : ℕ) (v : Level) (l k : List Level) → joined p q ((v ∷ l) ++ k) ≡ joined p q (v ∷ l) ++ k
 joined-cons p q v l k = go (eqb p (v .price))
   where

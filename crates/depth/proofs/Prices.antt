@@ -25,9 +25,10 @@ use Rattle.side.proofs.Levels.{nth-times}
 use Rattle.side.proofs.Orders.{Tiers, codes-times, side-tiers}
 use Rattle.ledger.specs.Desk.{Busy}
 use Rattle.ledger.specs.Doors.{sideOf}
+use Rattle.ledger.proofs.Best.{busy-at}
 use Rattle.depth.specs.Sides.{Standing}
 use Rattle.depth.specs.Answers.{turnOf}
-use Rattle.depth.proofs.Sides.{busy-at, head-some, rising, some-row}
+use Rattle.depth.proofs.Sides.{head-some, rising, some-row}
 
 -- ## the best price
 module _ (rs : List ℕ) (fnd : ℕ → Bool) where

@@ -1,36 +1,23 @@
 -- A side that stands: its rows, as a walk reads them. Assumes nothing.
-use Prim.Native.Nat.{suc, zero, ℕ, _+_, _<_, _≤_}
+use Prim.Native.Nat.{ℕ, _+_, _<_, _≤_}
 use mathlib.Core.List.{List, [], _∷_}
 use mathlib.Core.Logic.{_≢_}
 use mathlib.Core.Path.{ap, _∙_, _≡_}
 use native.Mathlib.Omega.{arith}
 use lib.ListN.{length}
 use Rattle.records.specs.Rows.{Row, places}
-use Rattle.arena.specs.Free.{chain}
-use Rattle.arena.specs.Links.{headOf, link, priceOf, tailOf}
+use Rattle.arena.specs.Links.{headOf, link, tailOf}
 use Rattle.arena.specs.Ring.{Run}
 use Rattle.arena.specs.Times.{times}
 use Rattle.arena.proofs.Times.{one-self}
 use Rattle.side.specs.Levels.{Lvl, nth}
-use Rattle.side.specs.Read.{levelsFrom, levelsIn}
+use Rattle.side.specs.Read.{levelsIn}
 use Rattle.side.specs.Prices.{Rising}
 use Rattle.side.proofs.Levels.{nth-times}
-use Rattle.ledger.specs.Desk.{Busy}
+use Rattle.side.proofs.Own.{from-nth}
+use Rattle.ledger.proofs.Best.{busy-at}
 use Rattle.depth.specs.Sides.{Queue, Standing, queueIn}
 use Rattle.depth.proofs.Queues.{ring-ends}
-
--- level j of those read from row i on
-from-nth : (m : ℕ) (rs lv : List ℕ) (i n j : ℕ) → j < n → nth (levelsFrom m rs lv i n) j ≡ record { price = priceOf lv (i + j); queue = chain m rs (headOf lv (i + j)) }
-from-nth m rs lv i zero j h = absurd (let g : ⊥ = omega arith in g)
-from-nth m rs lv i (suc n) zero h = let e : i + 0 ≡ i = omega arith in rw e
-from-nth m rs lv i (suc n) (suc j) h =
-    let e : suc i + j ≡ i + suc j = omega arith in
-    from-nth m rs lv (suc i) n j (omega arith) ∙ ap (λ (k : ℕ). record { price = priceOf lv k; queue = chain m rs (headOf lv k) }) e
-
-pub busy-at : (ws : List Lvl) (i : ℕ) → Busy ws → i < length ws → 1 ≤ length (nth ws i .queue)
-busy-at [] i b h = absurd (let z : ⊥ = omega arith in z)
-busy-at (v ∷ ws) zero b h = b .0
-busy-at (v ∷ ws) (suc i) b h = busy-at ws i (b .1) (omega arith)
 
 module _ {rs lv : List ℕ} {n : ℕ} (s : Standing rs lv n) where
   abbrev ws : List Lvl

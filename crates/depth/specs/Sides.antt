@@ -4,12 +4,12 @@ use Prim.Native.Nat.{ℕ, _+_, _≤_}
 use mathlib.Core.Bool.{Bool, false}
 use mathlib.Core.List.{List, [], reverse, _∷_}
 use mathlib.Core.Path.{_≡_}
-use Rattle.rules.specs.Rules.{Level, Order, Side, anyAbove, ask, bid, levels, most}
+use Rattle.rules.specs.Rules.{Level, Side, anyAbove, ask, bid, levels, most}
 use Rattle.records.specs.Rows.{Row, field, places}
 use Rattle.arena.specs.Free.{Chain, chain}
 use Rattle.arena.specs.Times.{times}
 use Rattle.side.specs.Levels.{Ladder, ups}
-use Rattle.side.specs.Orders.{codes, orders, ordersIn}
+use Rattle.side.specs.Orders.{ordersIn}
 use Rattle.side.specs.Read.{levelsIn}
 use Rattle.ledger.specs.Desk.{Busy}
 

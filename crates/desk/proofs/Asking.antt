@@ -1,10 +1,8 @@
 -- What a sound stock gives the steps of an order. Assumes nothing.
-use Prim.Native.Nat.{ℕ, zero, suc, _+_, _*_, _-_, _≤_, _<_}
-use native.Mathlib.Omega.{arith}
+use Prim.Native.Nat.{ℕ, _-_, _≤_, _<_}
 use mathlib.Core.Path.{_≡_, refl, sym, ap, _∙_, subst}
-use mathlib.Core.Bool.{Bool, true, false, not, _&&_, and-false, and-true}
-use mathlib.Core.List.{List, [], _∷_}
-use lib.Dec.{leb}
+use mathlib.Core.Bool.{Bool, false, not, and-false, and-true}
+use mathlib.Core.List.{List, []}
 use lib.ListN.{length}
 use borrow.Author.Tests.{le-leb, lt-leb}
 use Rattle.side.specs.Orders.{ordersIn}
@@ -15,7 +13,7 @@ use Rattle.models.specs.declared.Id.{Id}
 use Rattle.models.specs.declared.Statistics.{Statistics}
 use Rattle.models.specs.declared.OrderEvent.the-variants.{Canceled}
 use Rattle.models.specs.Readings.{sideOf, statisticsOf}
-use Rattle.models.specs.Rows.{fillRow, written}
+use Rattle.models.specs.Rows.{fillRow}
 use Rattle.models.proofs.Places.{written-none, fill-faithful}
 use Rattle.side.proofs.Stored.{swapped}
 use Rattle.side.specs.Read.{levelsIn}

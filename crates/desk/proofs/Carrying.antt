@@ -1,15 +1,14 @@
 -- What an order comes to by the rules, in the terms of the doors: refused, or carried out with a remainder that rests or not; and its statistics.
 -- Assumes nothing.
-use Prim.Native.Nat.{ℕ, zero, suc, _+_, _-_, _≤_, _<_}
+use Prim.Native.Nat.{ℕ, zero, suc, _-_}
 use native.Mathlib.Omega.{arith}
-use mathlib.Core.Path.{_≡_, refl, sym, ap, _∙_}
-use mathlib.Core.Bool.{Bool, true, false, not, _&&_, _||_}
+use mathlib.Core.Path.{_≡_, refl}
+use mathlib.Core.Bool.{Bool, true, false, _&&_}
 use mathlib.Core.List.{List, [], _∷_, map}
 use mathlib.Core.Option.{Option, none, some}
-use lib.Dec.{leb, ltb}
+use lib.Dec.{ltb}
 use Rattle.rules.specs.Rules as rule
-use Rattle.rules.specs.Rules.{Book, Desk, Order, Outcome, Size, book, carried, firstOf, hide, makers, opposite, order, outcome, own, perform, refusal, standing, statsAfter, total, worth, lastPrice, lastQuantity}
-use Rattle.rules.proofs.Basics.{own-book, other-book}
+use Rattle.rules.specs.Rules.{Book, Desk, Order, Outcome, Size, book, carried, firstOf, hide, makers, order, outcome, own, perform, refusal, standing}
 use Rattle.models.specs.declared.Statistics.{Statistics}
 use Rattle.models.specs.Readings.{sideOf, statisticsOf}
 use Rattle.ledger.specs.Doors.{restIn}

@@ -1,18 +1,17 @@
 -- An order from its outlook to what the rules say of it: asked of the doors step by step, and put together. Assumes nothing.
-use Prim.Native.Nat.{ℕ, zero, suc, _+_, _-_, _≤_, _<_}
+use Prim.Native.Nat.{ℕ, _+_, _-_, _≤_, _<_}
 use native.Mathlib.Omega.{arith}
 use mathlib.Core.Path.{_≡_, refl, sym, ap, _∙_, subst}
-use mathlib.Core.Bool.{Bool, true, false, not, _&&_}
+use mathlib.Core.Bool.{Bool, true, false, _&&_}
 use mathlib.Core.List.{List, [], _∷_}
 use mathlib.Core.Option.{Option, none, some}
 use lib.Dec.{leb, ltb}
 use lib.ListN.{length}
 use borrow.Author.Tests.{leb-false, lt-leb, ltb-false}
-use Rattle.side.specs.Orders.{ordersIn}
 use Rattle.rules.specs.Rules as rule
 use Rattle.rules.specs.Rules.{Book, Order, Outcome, book, carried, firstOf, opposite, outcome, own, perform, refusal}
 use Rattle.rules.specs.Whole.{WholeBook}
-use Rattle.rules.proofs.Basics.{not-both, own-book, other-book}
+use Rattle.rules.proofs.Basics.{not-both, own-book}
 use Rattle.rules.proofs.Bounds.{outcome-fewer, whole-book-after}
 use Rattle.models.specs.declared.Side.{Side}
 use Rattle.models.specs.declared.Side.the-variants.{Bid, Ask}
@@ -20,7 +19,7 @@ use Rattle.models.specs.declared.OrderEvent.{OrderEvent}
 use Rattle.models.specs.declared.Statistics.{Statistics}
 use Rattle.models.specs.declared.stats.Totals.{Totals}
 use Rattle.models.specs.Readings.{eventOf, sideOf, statisticsOf}
-use Rattle.models.specs.Rows.{fillRow, places as placesIn, written}
+use Rattle.models.specs.Rows.{fillRow, places as placesIn}
 use Rattle.models.specs.Statistics.{VolumeFits, totalsOf}
 use Rattle.models.proofs.Recording.{volume-fits, traded-after}
 use Rattle.records.specs.Rows.{places}
@@ -29,7 +28,6 @@ use Rattle.ledger.specs.Desk.{Desk, Leaves, deskBook, found}
 use Rattle.ledger.specs.Doors.{RoomOn, restIn, sideOf as flag}
 use Rattle.whole.specs.Whole.{Lengths}
 use Rattle.whole.proofs.Desk.{desk-resting, open-place, desk-room}
-use Rattle.depth.specs.Sides.{Standing}
 use Rattle.depth.proofs.Desk.{standing-bids, standing-asks}
 use Rattle.survey.specs.declared.Taker.{Taker}
 use Rattle.survey.specs.declared.Outlook.{Outlook}
@@ -40,7 +38,6 @@ use Rattle.trade.specs.Trade as deal
 use Rattle.trade.specs.Trade.{CanTrade, Trades}
 use Rattle.order.specs.Decided.{numberOf, filled, remains, totalsBy, passes, decided, eventBy}
 use Rattle.order.proofs.Judging.{left-within, totals-are, passes-is, event-is, refusal-is}
-use Rattle.desk.specs.declared.Answer.{Answer}
 use Rattle.desk.specs.declared.Answer.the-variants.{Refused, Done}
 use Rattle.desk.specs.Stock.{Stock, Sound, bookIn, deskIn}
 use Rattle.desk.specs.Performs as perf

@@ -1,11 +1,8 @@
 -- What is decided of an order, test by test. Assumes nothing.
-use Prim.Native.Nat.{ℕ, zero, suc, _+_, _-_, _≤_, _<_}
-use native.Mathlib.Omega.{arith}
+use Prim.Native.Nat.{ℕ, zero, suc, _-_, _≤_, _<_}
 use mathlib.Core.Path.{_≡_, refl, sym, ap, _∙_}
-use mathlib.Core.Bool.{Bool, true, false, not, _&&_, _||_, and-false}
-use mathlib.Core.Option.{Option, none, some}
-use lib.Dec.{leb, ltb}
-use borrow.Author.Tests.{lt-ltb, le-ltb, ltb-true, ltb-false}
+use mathlib.Core.Bool.{Bool, true, false, not}
+use borrow.Author.Tests.{lt-ltb, le-ltb}
 use Rattle.rules.specs.Rules as rule
 use Rattle.rules.specs.Rules.{firstOf}
 use Rattle.models.specs.declared.Statistics.{Statistics}

@@ -1,23 +1,19 @@
 -- What is decided from an order's outlook is what the rules say: the refusal, and the event. Assumes nothing.
-use Prim.Native.Nat.{ℕ, zero, suc, _+_, _-_, _≤_, _<_}
+use Prim.Native.Nat.{ℕ, zero, suc, _+_, _-_, _≤_}
 use native.Mathlib.Omega.{arith}
 use mathlib.Core.Path.{_≡_, refl, sym, ap, _∙_}
-use mathlib.Core.Bool.{Bool, true, false, not, _&&_, _||_, cond}
+use mathlib.Core.Bool.{Bool, true, false, not, _&&_}
 use mathlib.Core.List.{List, [], _∷_}
-use mathlib.Core.Option.{Option, none, some}
-use lib.Dec.{leb, ltb}
+use lib.Dec.{leb}
 use lib.ListN.{length}
-use native.Mathlib.Decide.{decLt}
-use borrow.Author.Tests.{lt-ltb, le-ltb, le-leb, lt-leb}
 use Rattle.rules.specs.Rules as rule
-use Rattle.rules.specs.Rules.{Order, Fill, Outcome, Desk, Book, Size, outcome, makers, refusal, checks, firstOf, tooLarge, some?, total, worth, full, crowded, occupied, levels, own, standing, event, most}
+use Rattle.rules.specs.Rules.{Order, Fill, Outcome, Book, Size, outcome, refusal, checks, tooLarge, total, full, crowded, occupied, levels, own, standing, event}
 use Rattle.rules.proofs.Turns.{outcome-gains}
 use Rattle.models.specs.declared.Statistics.{Statistics}
 use Rattle.models.specs.Readings.{statisticsOf, sideOf}
 use Rattle.models.specs.Statistics.{overOf, totalsOf}
 use Rattle.models.proofs.Recording.{too-large-is}
 use Rattle.survey.specs.declared.Taker.{Taker}
-use Rattle.survey.specs.declared.Outlook.{Outlook}
 use Rattle.survey.specs.Taker.{takerOf, kindOf}
 use Rattle.survey.specs.Surveyed.{surveyed}
 use Rattle.order.specs.Decided.{filled, remains, totalsBy, passes, decided, nothingFilled, eventBy}

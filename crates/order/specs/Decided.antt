@@ -1,9 +1,9 @@
 -- What is decided of an order from its outlook: the lowest refusal that applies, and the event. Assumes nothing.
-use Prim.Native.Nat.{ℕ, zero, suc, _+_, _-_}
-use mathlib.Core.Bool.{Bool, true, false, not, _&&_, _||_, cond}
-use mathlib.Core.List.{List, [], _∷_}
+use Prim.Native.Nat.{ℕ, zero, suc, _-_}
+use mathlib.Core.Bool.{Bool, true, false, not, _&&_}
+use mathlib.Core.List.{[], _∷_}
 use mathlib.Core.Option.{Option, none, some}
-use lib.Dec.{leb, ltb}
+use lib.Dec.{ltb}
 use Rattle.rules.specs.Rules as rule
 use Rattle.models.specs.declared.Statistics.{Statistics}
 use Rattle.models.specs.declared.stats.Totals.{Totals}
@@ -11,7 +11,6 @@ use Rattle.models.specs.Statistics.{overOf}
 use Rattle.models.specs.Sums.{capped}
 use Rattle.survey.specs.declared.Taker.{Taker}
 use Rattle.survey.specs.declared.Outlook.{Outlook}
-use Rattle.survey.specs.Taker.{kindOf}
 
 -- document 01's number of a refusal, or 0 for none
 abbrev pub numberOf : Option ℕ → ℕ

@@ -1,15 +1,15 @@
 -- At most one order is found under an id; counts stay within the book's size. Assumes nothing.
-use Prim.Native.Nat.{ℕ, zero, suc, _+_, _-_, _≤_, _<_}
+use Prim.Native.Nat.{ℕ, zero, suc, _+_, _-_, _≤_}
 use native.Mathlib.Omega.{arith}
 use mathlib.Core.Path.{_≡_, refl, sym, ap, _∙_, subst}
-use mathlib.Core.Bool.{Bool, true, false, not, _&&_, _||_, cond, and-false}
+use mathlib.Core.Bool.{Bool, true, false, not, _&&_, _||_, cond}
 use mathlib.Core.List.{List, [], _∷_, map}
 use mathlib.Core.Option.{Option, none, some}
 use lib.Dec.{leb, eqb}
 use lib.ListN.{length}
-use borrow.Author.Tests.{eqb-true, eqb-false, eq-eqb, ne-eqb, leb-false}
-use Rattle.rules.specs.Rules.{Side, bid, ask, opposite, asGood, Kind, standing, Order, Book, Taker, Outcome, also, keep, own, book, atRest, given, keeping, matching, place, hide, joining, hiding, stays, only}
-use Rattle.rules.specs.Rules.{Desk, Call, order, cancel, tracking, Size, unless, firstOf, outcome, makers, checks, refusal, full, crowded, carried, verdict, perform, after, fresh, end}
+use borrow.Author.Tests.{eqb-true, eq-eqb, ne-eqb, leb-false}
+use Rattle.rules.specs.Rules.{Side, bid, ask, opposite, asGood, standing, Order, Book, Taker, also, keep, own, book, atRest, given, keeping, matching, place, hide, joining, hiding, stays, only}
+use Rattle.rules.specs.Rules.{Desk, Call, order, cancel, tracking, Size, unless, firstOf, outcome, makers, checks, refusal, full, crowded, carried, verdict, perform, after, end}
 use Rattle.rules.specs.Rules.{Level, joined, levels, occupied}
 use Rattle.rules.specs.Whole.{All, empty, _&_, Sorted, sorted[], sorted∷, Whole, one, seen, Once, Fits, WholeBook}
 use Rattle.rules.proofs.Basics.{not-both, good-refl, good-antisym, good-worse, all-map, all-head, all-tail, both-sides, own-book, other-book}
@@ -155,7 +155,8 @@ all-false (c ∷ l) e = go (c .1) refl e (all-false l)
     go true f h r = absurd (let m : _≡_ {A = ℕ} 0 1 = cc in let x : ⊥ = omega arith in x)
     go false f h r = f & r h
 
-joined-head : (n r : ℕ) (l : List Level) → (v : Level) × (k : List Level) × (joined n r l ≡ v ∷ k) × (v .price ≡ n)
+-- the first level has the price that came in
+pub joined-head : (n r : ℕ) (l : List Level) → (v : Level) × (k : List Level) × (joined n r l ≡ v ∷ k) × (v .price ≡ n)
 joined-head n r [] = (record { price = n; total = r }, [], refl, refl)
 joined-head n r (v ∷ l) = go (eqb n (v .price))
   where

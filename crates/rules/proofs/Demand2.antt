@@ -1,14 +1,14 @@
 -- Every accepted order follows demand 2, and demand 2 leaves room for one outcome; a refusal changes nothing. Assumes nothing.
-use Prim.Native.Nat.{ℕ, zero, suc}
+use Prim.Native.Nat.{ℕ}
 use native.Mathlib.Omega.{arith}
 use mathlib.Core.Path.{_≡_, refl, sym, ap, _∙_, subst}
-use mathlib.Core.Bool.{Bool, true, false}
-use mathlib.Core.List.{List, [], _∷_}
+use mathlib.Core.Bool.{true, false}
+use mathlib.Core.List.{List}
 use mathlib.Core.Option.{Option, none, some}
-use Rattle.rules.specs.Rules.{Side, bid, ask, opposite, Order, Book, Taker, Fill, Outcome, own, book, matching, standing, joining, hiding, Desk, Call, order, cancel, tracking, Answer, done, Result, Size}
+use Rattle.rules.specs.Rules.{Side, bid, ask, opposite, Order, Book, Taker, Outcome, own, book, standing, joining, hiding, Desk, Call, order, cancel, tracking, done, Result, Size}
 use Rattle.rules.specs.Rules.{statsAfter, outcome, makers, refusal, event, carried, verdict, perform, after, end}
 use Rattle.rules.specs.Whole.{Whole}
-use Rattle.rules.specs.Turns.{Taken, Demand2}
+use Rattle.rules.specs.Turns.{Demand2}
 use Rattle.rules.specs.Late.{refuses}
 use Rattle.rules.proofs.Basics.{own-book, other-book}
 use Rattle.rules.proofs.Reached.{whole-end, whole-carried}

@@ -1,15 +1,14 @@
 -- Demand 3: latecomers can't touch those ahead. Assumes nothing.
-use Prim.Native.Nat.{ℕ, zero, suc, _≤_}
-use native.Mathlib.Omega.{arith}
-use mathlib.Core.Path.{_≡_, refl, sym, ap, _∙_, subst}
-use mathlib.Core.Bool.{Bool, true, false, _||_, or-false}
+use Prim.Native.Nat.{ℕ, zero, suc}
+use mathlib.Core.Path.{_≡_, refl, sym, ap, _∙_}
+use mathlib.Core.Bool.{Bool, true, false}
 use mathlib.Core.Logic.{_⊎_, inl, inr}
 use mathlib.Core.List.{List, [], _∷_, map, List·Memᴰ, Memᴰ·map}
 use mathlib.Core.Option.{Option, none, some}
-use Rattle.rules.specs.Rules.{Side, bid, ask, opposite, asGood, Kind, market, limit, within, standing, Order, Book, Taker, Fill, Outcome, own, book, withLeft, atRest, keep, matching, place, hide, joining, hiding, stays, only}
-use Rattle.rules.specs.Rules.{Stats, Desk, Call, order, cancel, tracking, Answer, done, Result, Size, traded, statsAfter, total, outcome, makers, refusal, event, carried, verdict, perform, after, fresh, end}
-use Rattle.rules.specs.Whole.{All, empty, _&_, Sorted, Positive, Whole}
-use Rattle.rules.specs.Late.{marked, plain, Names, refuses, fillsOf, among, rests, upToX, turnOfX, Alike, Histories, start, shared, entersX, extra, Untouched, Unmoved, Demand3}
+use Rattle.rules.specs.Rules.{Side, bid, ask, opposite, asGood, Kind, limit, within, standing, Order, Book, Taker, Outcome, own, book, withLeft, atRest, keep, hide, joining, hiding, stays, only}
+use Rattle.rules.specs.Rules.{Stats, Desk, Call, order, cancel, tracking, Answer, Result, Size, traded, statsAfter, total, outcome, makers, refusal, carried, verdict, perform, after, end}
+use Rattle.rules.specs.Whole.{All, empty, Sorted, Whole}
+use Rattle.rules.specs.Late.{marked, plain, Names, refuses, fillsOf, among, rests, upToX, turnOfX, Histories, start, shared, entersX, extra, Unmoved, Demand3}
 use Rattle.rules.proofs.Basics.{not-both, limit-worse, both-sides, own-book, other-book, all-map, all-mem, all-keep, keep-all, keep-keep, all-map-list}
 use Rattle.rules.proofs.Match.{outcome-idle, outcome-all, place-all, hide-sorted}
 use Rattle.rules.proofs.Reached.{whole-end}

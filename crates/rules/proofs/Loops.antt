@@ -1,13 +1,13 @@
 -- What a program's loops use: matching, placing, removing and levels, over a list in two parts. Assumes nothing.
-use Prim.Native.Nat.{ℕ, zero, suc, _+_, _-_, _≤_}
+use Prim.Native.Nat.{ℕ, zero, suc, _+_, _-_}
 use native.Mathlib.Omega.{arith}
 use native.Mathlib.Nat.{add-zero}
-use mathlib.Core.Path.{_≡_, refl, sym, ap, _∙_}
+use mathlib.Core.Path.{_≡_, refl}
 use mathlib.Core.Bool.{Bool, true, false, cond}
-use mathlib.Core.List.{List, [], _∷_, _++_, append-assoc}
+use mathlib.Core.List.{List, [], _∷_, _++_}
 use lib.Dec.{eqb}
 use borrow.Author.Tests.{eq-eqb, ne-eqb}
-use Rattle.rules.specs.Rules.{Side, asGood, Order, Taker, Fill, Outcome, Level, also, keep, given, filling, keeping, meet, matching, place, joined, levels, total, worth}
+use Rattle.rules.specs.Rules.{Side, asGood, Order, Taker, Fill, Level, also, keep, given, filling, keeping, matching, place, joined, levels, total, worth}
 use Rattle.rules.specs.Whole.{All, empty, _&_}
 use Rattle.rules.specs.Turns.{supply}
 use Rattle.rules.proofs.Basics.{keep-all}
@@ -27,7 +27,8 @@ pub keep-out : {X : Type 0} (f : X → Bool) (l : List X) (x : X) (k : List X) �
 unfolding keep
 keep-out f l x k a e b = rw (keep-append f l (x ∷ k), e, keep-all f l a, keep-all f k b)
 
-joined-new : (p q n r : ℕ) (l : List Level) → (p ≡ n → ⊥) → joined p q (joined n r l) ≡ record { price = p; total = q } ∷ joined n r l
+-- a level of a new price comes before those there
+pub joined-new : (p q n r : ℕ) (l : List Level) → (p ≡ n → ⊥) → joined p q (joined n r l) ≡ record { price = p; total = q } ∷ joined n r l
 joined-new p q n r [] h = rw (ne-eqb p n h)
 joined-new p q n r (v ∷ l) h = go (eqb n (v .price))
   where

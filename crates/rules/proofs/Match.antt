@@ -1,14 +1,14 @@
 -- Matching and placing: what is left of the makers, and when nothing happens. Assumes nothing.
-use Prim.Native.Nat.{ℕ, zero, suc, _+_, _-_, _≤_, _<_, min}
+use Prim.Native.Nat.{ℕ, zero, suc, _-_, _≤_, _<_, min}
 use native.Mathlib.Nat.{min-zero, sub-zero}
 use native.Mathlib.Omega.{arith}
-use mathlib.Core.Path.{_≡_, refl, sym, ap, _∙_, subst}
-use mathlib.Core.Bool.{Bool, true, false, not, _&&_, _||_, cond}
+use mathlib.Core.Path.{_≡_, refl, sym, ap, subst}
+use mathlib.Core.Bool.{Bool, true, false, cond}
 use mathlib.Core.Logic.{_⊎_, inl, inr}
 use mathlib.Core.List.{List, [], _∷_, map}
-use mathlib.Core.Option.{none, some}
-use Rattle.rules.specs.Rules.{Side, opposite, asGood, Kind, market, limit, within, standing, Order, Taker, Fill, Outcome, given, withLeft, filling, keeping, meet, matching, place, hide, outcome}
-use Rattle.rules.specs.Whole.{All, empty, _&_, Sorted, sorted[], sorted∷, Positive, Apart}
+use mathlib.Core.Option.{some}
+use Rattle.rules.specs.Rules.{Side, asGood, Kind, market, limit, within, standing, Order, Taker, given, withLeft, keeping, matching, place, hide, outcome}
+use Rattle.rules.specs.Whole.{All, empty, _&_, Sorted, sorted[], sorted∷, Positive}
 use Rattle.rules.proofs.Basics.{good-trans, good-total, all-map, all-map-list}
 
 -- only the remainder of a limit order rests, at its limit

@@ -3,7 +3,7 @@ use Prim.Native.Nat.{ℕ, zero, suc}
 use mathlib.Core.Path.{_≡_, refl}
 use mathlib.Core.Bool.{Bool, true, false}
 use mathlib.Core.List.{List, [], _∷_, List·Memᴰ·head}
-use Rattle.rules.specs.Rules.{bid, ask, market, limit, Taker, Fill, Order, order, partiallyFilled, filled, done, hall}
+use Rattle.rules.specs.Rules.{bid, ask, market, limit, Taker, Order, order, partiallyFilled, filled, done, hall}
 use Rattle.rules.specs.Rules.{keep, matching, place, only, levels, occupied, total, worth, lastPrice, lastQuantity, statsAfter, tooLarge, outcome, checks, firstOf, refusal, carried, perform, end}
 use Rattle.rules.specs.Late.{Histories, start, shared, entersX, extra, answerTo, marked, plain}
 

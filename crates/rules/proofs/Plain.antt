@@ -1,12 +1,12 @@
 -- Demand 3 on the desk that knows no marks: its answers, when X leaves, and the fills up to X's. Assumes nothing.
-use Prim.Native.Nat.{ℕ, zero, suc}
+use Prim.Native.Nat.{ℕ}
 use mathlib.Core.Path.{_≡_, refl, ap, _∙_, sym}
 use mathlib.Core.Bool.{Bool, true, false}
 use mathlib.Core.List.{List, [], _∷_, map}
 use lib.ListN.{length, take}
-use Rattle.rules.specs.Rules.{Side, Order, Fill, own, Desk, Call, order, cancel, tracking, Answer, done, switched, Result, Size, perform, after, end}
+use Rattle.rules.specs.Rules.{own, Call, order, cancel, tracking, Answer, done, switched, Result, Size, perform, end}
 use Rattle.rules.specs.Retag.{reOrder, reFill, reCall, reAnswer, reDesk, reResult}
-use Rattle.rules.specs.Late.{plain, Names, refuses, fillsOf, rests, upTo, upToX, turnOfX, Alike, Histories, shared, answerTo, unmark, turn, share, plainly, Alone}
+use Rattle.rules.specs.Late.{plain, Names, refuses, fillsOf, rests, upTo, Alike, Histories, shared, answerTo, unmark, turn, plainly, Alone}
 use Rattle.rules.proofs.Retag.{own-re, perform-re, end-re}
 use Rattle.rules.proofs.Latecomers.{demand3}
 

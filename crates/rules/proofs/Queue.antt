@@ -1,18 +1,17 @@
 -- X's side in the two histories: the first is what is left of the second when the orders of unknown ids are taken out,
 -- and no such order stands ahead of X. Assumes nothing.
-use Prim.Native.Nat.{ℕ, zero, suc, _+_, _-_, _≤_, _<_, min}
+use Prim.Native.Nat.{ℕ, zero, suc, _-_, _≤_}
 use native.Mathlib.Omega.{arith}
 use mathlib.Core.Path.{_≡_, refl, sym, ap, _∙_, subst}
-use mathlib.Core.Bool.{Bool, true, false, not, _&&_, _||_, cond, and-true}
+use mathlib.Core.Bool.{Bool, true, false, cond, and-true}
 use mathlib.Core.Logic.{_⊎_, inl, inr}
 use mathlib.Core.List.{List, [], _∷_, map, List·Memᴰ, List·Memᴰ·head, List·Memᴰ·tail}
-use lib.Dec.{eqb}
 use borrow.Author.Tests.{ne-eqb}
-use Rattle.rules.specs.Rules.{Side, opposite, asGood, within, Order, Taker, Fill, Outcome, also, keep, given, filling, keeping, meet, matching, place, hide, stays, outcome}
+use Rattle.rules.specs.Rules.{Side, opposite, asGood, within, Order, Taker, Fill, Outcome, also, keep, given, filling, keeping, meet, matching, place, hide, outcome}
 use Rattle.rules.specs.Whole.{All, empty, _&_, Sorted, sorted[], sorted∷, Positive}
 use Rattle.rules.specs.Late.{among, upTo, upToX, turnOfX}
-use Rattle.rules.proofs.Basics.{not-both, good-trans, good-worse, within-worse, all-map, all-head, all-tail, all-mem, all-keep, keep-yes, keep-no, keep-map, keep-all, all-map-list}
-use Rattle.rules.proofs.Match.{given-less, given-le, idle-done, idle-beyond, left-all, place-all, place-front}
+use Rattle.rules.proofs.Basics.{not-both, good-trans, good-worse, within-worse, all-map, all-mem, all-keep, keep-yes, keep-map, all-map-list}
+use Rattle.rules.proofs.Match.{given-less, idle-done, idle-beyond, left-all, place-all, place-front}
 
 abbrev pub Unmarked : Order Bool → Type 0
 Unmarked m = m .tag ≡ false

@@ -1,14 +1,13 @@
 -- Every book that a history reaches is whole. Assumes nothing.
-use Prim.Native.Nat.{ℕ, zero, suc, _≤_}
-use native.Mathlib.Omega.{arith}
+use Prim.Native.Nat.{ℕ, _≤_}
 use mathlib.Core.Path.{_≡_, refl, sym, subst}
 use mathlib.Core.Bool.{Bool, true, false}
-use mathlib.Core.List.{List, [], _∷_, map}
+use mathlib.Core.List.{List, [], _∷_}
 use mathlib.Core.Option.{Option, none, some}
-use Rattle.rules.specs.Rules.{Side, opposite, asGood, Kind, market, limit, within, standing, Order, Book, Taker, Outcome, own, book, keep, matching, place, hide, joining, hiding, stays, only}
-use Rattle.rules.specs.Rules.{Desk, Call, order, cancel, tracking, Size, outcome, makers, refusal, carried, verdict, perform, after, fresh, end}
-use Rattle.rules.specs.Whole.{All, empty, _&_, Sorted, sorted[], sorted∷, Positive, Apart, Whole}
-use Rattle.rules.proofs.Basics.{apart-swap, opposite-twice, both-sides, own-book, other-book, all-map, all-keep, all-swap, all-map-list, keep-yes, keep-no}
+use Rattle.rules.specs.Rules.{Side, opposite, asGood, limit, within, standing, Order, Book, Taker, own, book, keep, hide, joining, hiding, stays, only}
+use Rattle.rules.specs.Rules.{Desk, Call, order, cancel, tracking, Size, outcome, makers, refusal, carried, verdict, perform, after, end}
+use Rattle.rules.specs.Whole.{All, empty, Sorted, sorted[], sorted∷, Positive, Apart, Whole}
+use Rattle.rules.proofs.Basics.{apart-swap, opposite-twice, both-sides, own-book, other-book, all-map, all-keep, all-swap, all-map-list}
 use Rattle.rules.proofs.Match.{standing-limit, outcome-all, outcome-positive, outcome-sorted, outcome-beyond, place-all, place-sorted, hide-sorted}
 
 module _ {A : Type 0} where

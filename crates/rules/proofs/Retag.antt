@@ -1,14 +1,13 @@
 -- No rule looks at a tag: a history with other tags ends alike and answers alike. Assumes nothing.
-use Prim.Native.Nat.{ℕ, zero, suc, _+_, _-_, _*_, _/_}
-use mathlib.Core.Path.{_≡_, refl, sym, ap, _∙_}
-use mathlib.Core.Bool.{Bool, true, false, _||_, _&&_, not, cond}
+use Prim.Native.Nat.{ℕ, zero, suc, _-_}
+use mathlib.Core.Path.{_≡_, refl, ap}
+use mathlib.Core.Bool.{Bool, true, false, cond}
 use mathlib.Core.List.{List, [], _∷_, map}
 use mathlib.Core.Option.{Option, none, some}
 use lib.ListN.{length}
-use lib.Dec.{eqb}
-use Rattle.rules.specs.Rules.{Side, bid, ask, opposite, asGood, Kind, standing, Order, Book, Taker, Fill, Outcome, also, keep, own, book, given, filling, keeping, meet, matching, place, hide, joining, hiding, stays, only, joined, levels, occupied, total, worth, lastPrice, lastQuantity}
-use Rattle.rules.specs.Rules.{Stats, traded, some?, Desk, Call, order, cancel, tracking, Event, Answer, done, Result, Size, statsAfter, tooLarge, full, crowded, outcome, makers, checks, refusal, event, noFill, carried, verdict, perform, after, fresh, end}
-use Rattle.rules.specs.Retag.{reOrder, reTaker, reFill, reOutcome, reBook, reDesk, reCall, reAnswer, reResult}
+use Rattle.rules.specs.Rules.{Side, bid, ask, opposite, asGood, Kind, standing, Order, Book, Taker, Fill, also, keep, own, book, given, filling, keeping, matching, place, hide, joining, hiding, stays, only, levels, occupied, total, worth, lastPrice, lastQuantity}
+use Rattle.rules.specs.Rules.{Stats, some?, Desk, Call, order, cancel, tracking, Result, Size, statsAfter, tooLarge, full, crowded, outcome, makers, checks, refusal, event, carried, verdict, perform, end}
+use Rattle.rules.specs.Retag.{reOrder, reTaker, reFill, reOutcome, reBook, reDesk, reCall, reResult}
 
 module _ {A B : Type 0} (f : A → B) where
   pub own-re : (s : Side) (b : Book A) → own s (reBook f b) ≡ map (reOrder f) (own s b)

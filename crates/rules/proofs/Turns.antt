@@ -2,17 +2,17 @@
 use Prim.Native.Nat.{ℕ, zero, suc, _+_, _-_, _≤_, _<_, min}
 use native.Mathlib.Omega.{arith}
 use native.Mathlib.Nat.{sub-self}
-use mathlib.Core.Path.{_≡_, refl, sym, ap, _∙_, subst}
+use mathlib.Core.Path.{_≡_, refl, sym, _∙_, subst}
 use mathlib.Core.Bool.{Bool, true, false}
-use mathlib.Core.List.{List, [], _∷_, _++_, map}
-use mathlib.Core.Option.{Option, none, some}
+use mathlib.Core.List.{List, [], _∷_}
+use mathlib.Core.Option.{some}
 use lib.Dec.{leb, eqb}
 use borrow.Author.Tests.{leb-true, leb-false, eq-eqb, ne-eqb}
-use Rattle.rules.specs.Rules.{Side, bid, ask, opposite, asGood, within, Order, Book, Taker, Fill, Outcome, own, best, given, fillFrom, withLeft, filling, keeping, meet, matching, total, outcome, Call, Size, end}
-use Rattle.rules.specs.Whole.{All, empty, _&_, Sorted, sorted[], sorted∷, Positive, Apart, Whole}
+use Rattle.rules.specs.Rules.{bid, opposite, within, Order, Book, Taker, Fill, Outcome, best, given, fillFrom, withLeft, filling, keeping, matching, total, outcome, Call, Size, end}
+use Rattle.rules.specs.Whole.{_&_, Sorted, sorted[], sorted∷, Positive, Apart, Whole}
 use Rattle.rules.specs.Turns.{Taken, enough, nobody, beyond, wholly, partly, supply}
 use Rattle.rules.proofs.Basics.{within-worse, all-map, all-head}
-use Rattle.rules.proofs.Match.{keeping-all, given-within, given-le, idle-done, idle-beyond}
+use Rattle.rules.proofs.Match.{given-within, given-le, idle-done, idle-beyond}
 use Rattle.rules.proofs.Reached.{whole-end}
 
 module _ {A : Type 0} where

@@ -6,7 +6,7 @@ use mathlib.Core.Path.{_≡_}
 use mathlib.Core.Bool.{Bool, true, false, _||_, cond}
 use mathlib.Core.List.{List, [], _∷_, map, List·Memᴰ}
 use lib.ListN.{length, take}
-use Rattle.rules.specs.Rules.{Side, asGood, Kind, limit, Order, Taker, Fill, Desk, Call, order, cancel, tracking, Answer, done, switched, Size, own, perform, after, end}
+use Rattle.rules.specs.Rules.{Side, asGood, limit, Order, Taker, Fill, Desk, Call, order, cancel, tracking, Answer, done, switched, Size, own, perform, end}
 use Rattle.rules.specs.Retag.{reCall}
 
 -- a call whose order, if it is one, carries the mark b

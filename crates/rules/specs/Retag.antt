@@ -1,5 +1,5 @@
 -- Other tags on the same orders. Assumes nothing.
-use mathlib.Core.List.{List, [], _∷_, map}
+use mathlib.Core.List.{map}
 use Rattle.rules.specs.Rules.{Order, Book, Taker, Fill, Outcome, Desk, Call, order, cancel, tracking, Answer, done, switched, Result}
 
 module _ {A B : Type 0} (f : A → B) where

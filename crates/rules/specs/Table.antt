@@ -6,8 +6,8 @@ use mathlib.Core.List.{List, [], _∷_}
 use mathlib.Core.Option.{none, some}
 use lib.IntN.{pos}
 use lib.Ieee.{fin}
-use Rattle.rules.specs.Rules.{Side, bid, ask, Kind, market, limit, Order, Fill, Level, Trade, Stats, Desk, Call, order, cancel, tracking}
-use Rattle.rules.specs.Rules.{Event, unfilled, placed, canceled, partiallyFilled, filled, Answer, done, switched, hall, perform, fresh}
+use Rattle.rules.specs.Rules.{Side, bid, ask, Kind, market, limit, Order, Fill, Level, Desk, Call, order, cancel, tracking}
+use Rattle.rules.specs.Rules.{unfilled, placed, canceled, partiallyFilled, filled, Answer, done, switched, hall, perform, fresh}
 use Rattle.rules.specs.Rules.{Question, quotes, depth, statistics, search, Reply, quoted, deep, counted, found, reply}
 
 pub data Row : Type 0 where

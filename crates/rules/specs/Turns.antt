@@ -2,11 +2,11 @@
 -- Assumes nothing.
 use Prim.Native.Nat.{ℕ, _+_, _-_, _≤_, _<_}
 use mathlib.Core.Path.{_≡_}
-use mathlib.Core.Bool.{Bool, true, false}
+use mathlib.Core.Bool.{true, false}
 use mathlib.Core.List.{List, [], _∷_, map}
 use mathlib.Core.Option.{none, some}
 use Rattle.rules.specs.Whole.{Whole}
-use Rattle.rules.specs.Rules.{within, Order, Taker, Fill, fillFrom, withLeft, atRest, place, hide, own, standing, total, Desk, Answer, done, Result, makers, event, statsAfter}
+use Rattle.rules.specs.Rules.{within, Order, Taker, Fill, fillFrom, withLeft, atRest, place, hide, own, standing, total, Desk, done, Result, makers, event, statsAfter}
 
 module _ {A : Type 0} where
   -- t, wanting w, meets these makers: its fills, the makers left, and what it still wants

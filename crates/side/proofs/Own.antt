@@ -18,11 +18,12 @@ use Rattle.side.specs.Stored.{Stored}
 use Rattle.side.proofs.Levels.{nth-times, with-length}
 use Rattle.side.proofs.Stored.{at-most-one}
 
-from-length : (m : ℕ) (rs lv : List ℕ) (i n : ℕ) → length (levelsFrom m rs lv i n) ≡ n
+-- how many levels are read from row i on, and level j of them
+pub from-length : (m : ℕ) (rs lv : List ℕ) (i n : ℕ) → length (levelsFrom m rs lv i n) ≡ n
 from-length m rs lv i zero = refl
 from-length m rs lv i (suc n) = ap suc (from-length m rs lv (suc i) n)
 
-from-nth : (m : ℕ) (rs lv : List ℕ) (i n j : ℕ) → j < n → nth (levelsFrom m rs lv i n) j ≡ record { price = getD lv ((i + j) * 3) 0; queue = chain m rs (getD lv ((i + j) * 3 + 1) 0) }
+pub from-nth : (m : ℕ) (rs lv : List ℕ) (i n j : ℕ) → j < n → nth (levelsFrom m rs lv i n) j ≡ record { price = getD lv ((i + j) * 3) 0; queue = chain m rs (getD lv ((i + j) * 3 + 1) 0) }
 from-nth m rs lv i zero j h = absurd (let g : ⊥ = omega arith in g)
 from-nth m rs lv i (suc n) zero h = let e : i + 0 ≡ i = omega arith in rw e
 from-nth m rs lv i (suc n) (suc j) h =

@@ -1,14 +1,12 @@
 -- The makers as they are stored, and what a walk over them asks of storage. Assumes nothing.
 use Prim.Native.Nat.{ℕ, _+_, _-_, _≤_, min}
-use mathlib.Core.Bool.{Bool}
 use mathlib.Core.List.{List}
 use lib.Dec.{eqb}
-use Rattle.rules.specs.Rules.{Order, Side, ask, bid}
+use Rattle.rules.specs.Rules.{Side, ask, bid}
 use Rattle.rules.specs.Whole.{one}
 use Rattle.records.specs.Rows.{Row, field}
 use Rattle.arena.specs.Times.{times}
 use Rattle.side.specs.Levels.{Ladder, Lvl, ups}
-use Rattle.side.specs.Orders.{codes, orders}
 use Rattle.side.specs.Read.{levelsIn}
 
 -- the rows lv store the levels ws, and each code of them is a record's and stands there once

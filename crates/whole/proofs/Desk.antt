@@ -1,7 +1,7 @@
 -- What a desk (the doors' invariant) says of the rules' book that it stands for: its orders stand in their turns, its counts are the book's,
 -- a price of its rows is an occupied one, and the best is at the front. Assumes nothing.
 use Prim.Native.Nat.{ℕ, _*_, _+_, _-_, _<_, _≤_}
-use mathlib.Core.Bool.{Bool, false, not, true}
+use mathlib.Core.Bool.{Bool, false, true}
 use mathlib.Core.List.{List, [], _∷_}
 use mathlib.Core.Logic.{_≢_}
 use mathlib.Core.Option.{some}
@@ -28,10 +28,9 @@ use Rattle.side.proofs.Orders.{codes-times, side-tiers}
 use Rattle.side.proofs.Stored.{at-most-one}
 use Rattle.ledger.specs.Desk.{Busy, Desk, deskBook, found}
 use Rattle.ledger.specs.Doors.{On, RoomOn, frontRow, sideOf}
-use Rattle.ledger.proofs.Best.{front-ask, front-bid}
+use Rattle.ledger.proofs.Best.{busy-at, front-ask, front-bid, some-of}
 use Rattle.whole.specs.Whole.{Lengths}
 use Rattle.whole.proofs.Orders.{codes-length, levels-side, occupied-no, occupied-yes, orders-length, seen-most, sorted-side}
-use Rattle.whole.proofs.Sides.{busy-at}
 
 -- the rows of a side, and how many
 abbrev pub rowsOn : Bool → List ℕ → List ℕ → List ℕ
@@ -41,10 +40,6 @@ rowsOn false bd ak = bd
 abbrev pub countOn : Bool → ℕ → ℕ → ℕ
 countOn true nb na = na
 countOn false nb na = nb
-
-some-of : (l : List ℕ) → 1 ≤ length l → (x : ℕ) × (1 ≤ times x l)
-some-of [] h = absurd (let z : ⊥ = omega arith in z)
-some-of (x ∷ l) h = (x, omega (arith, one-self x))
 
 -- ## One side
 

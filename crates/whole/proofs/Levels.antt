@@ -2,7 +2,7 @@
 use Prim.Native.Nat.{suc, zero, ℕ, _+_, _<_, _≤_}
 use mathlib.Core.List.{List, []}
 use mathlib.Core.Logic.{_≢_, ⊎-elim}
-use mathlib.Core.Path.{ap, refl, _∙_, _≡_}
+use mathlib.Core.Path.{ap, _∙_, _≡_}
 use native.Mathlib.Omega.{arith}
 use lib.ListN.{length, length-append}
 use Rattle.records.specs.Rows.{places}
@@ -14,23 +14,13 @@ use Rattle.side.specs.Levels.{Lvl, nth, ups}
 use Rattle.side.specs.Read.{levelsFrom, levelsIn}
 use Rattle.side.proofs.Leaving.{stands}
 use Rattle.side.proofs.Levels.{nth-times}
+use Rattle.side.proofs.Own.{from-length, from-nth}
 
 -- the level that row i stores
 abbrev pub levelAt : List ℕ → List ℕ → ℕ → Lvl
 levelAt rs lv i = record { price = priceOf lv i; queue = chain (places rs) rs (headOf lv i) }
 
 module _ (m : ℕ) (rs lv : List ℕ) where
-  from-length : (i n : ℕ) → length (levelsFrom m rs lv i n) ≡ n
-  from-length i zero = refl
-  from-length i (suc n) = ap suc (from-length (suc i) n)
-
-  from-nth : (i n j : ℕ) → j < n → nth (levelsFrom m rs lv i n) j ≡ record { price = priceOf lv (i + j); queue = chain m rs (headOf lv (i + j)) }
-  from-nth i zero j h = absurd (let g : ⊥ = omega arith in g)
-  from-nth i (suc n) zero h = let e : i + 0 ≡ i = omega arith in rw e
-  from-nth i (suc n) (suc j) h =
-      let e : suc i + j ≡ i + suc j = omega arith in
-      from-nth (suc i) n j (omega arith) ∙ ap (λ (k : ℕ). record { price = priceOf lv k; queue = chain m rs (headOf lv k) }) e
-
   from-more : (i n : ℕ) → length (ups (levelsFrom m rs lv i (suc n))) ≡ length (ups (levelsFrom m rs lv i n)) + length (chain m rs (headOf lv (i + n)))
   from-more i zero =
       let e : i + 0 ≡ i = omega arith in

@@ -10,6 +10,7 @@ use lib.ListN.{length, length-append}
 use borrow.Author.Tests.{eq-eqb, eqb-true, le-leb, ne-eqb}
 use Rattle.rules.specs.Rules.{Level, Order, Side, asGood, ask, bid, joined, levels, occupied}
 use Rattle.rules.specs.Whole.{All, Sorted, empty, one, seen, sorted[], sorted∷, _&_}
+use Rattle.rules.proofs.Bounds.{joined-head}
 use Rattle.records.specs.Rows.{field}
 use Rattle.records.proofs.Cases.{lt?}
 use Rattle.search.specs.Seek.{lookup}
@@ -81,14 +82,6 @@ module _ (rs : List ℕ) (fnd : ℕ → Bool) where
   sorted-side s ws t = sorted-of s (codes s ws) (falls-side s ws t)
 
   -- ## Their levels
-  joined-head : (p q : ℕ) (l : List Level) → (v : Level) × (k : List Level) × (joined p q l ≡ v ∷ k) × (v .price ≡ p)
-  joined-head p q [] = (record { price = p; total = q }, [], refl, refl)
-  joined-head p q (v ∷ l) = go (eqb p (v .price))
-    where
-      go : (b : Bool) → (u : Level) × (k : List Level) × (cond b (record { price = p; total = q + v .total } ∷ l) (record { price = p; total = q } ∷ v ∷ l) ≡ u ∷ k) × (u .price ≡ p)
-      go true = (record { price = p; total = q + v .total }, l, refl, refl)
-      go false = (record { price = p; total = q }, v ∷ l, refl, refl)
-
   joined-length : (p q : ℕ) (v : Level) (l : List Level) → length (joined p q (v ∷ l)) ≡ one (not (eqb p (v .price))) + length (v ∷ l)
   joined-length p q v l = go (eqb p (v .price))
     where

@@ -16,6 +16,7 @@ use Rattle.side.proofs.Leaving.{stands}
 use Rattle.side.proofs.Levels.{nth-times}
 use Rattle.side.proofs.Orders.{Tiers, side-tiers}
 use Rattle.ledger.specs.Desk.{Busy}
+use Rattle.ledger.proofs.Best.{busy-at}
 use Rattle.whole.specs.Check.{Queue, Rises, Sided, Totals, walked}
 use Rattle.whole.proofs.Levels.{in-row, levelAt, levels-first, levels-length, levels-more, levels-nth, row-in}
 use Rattle.whole.proofs.Queues.{queue-once, queue-walk, walk-queue}
@@ -104,11 +105,6 @@ module _ (rs lv : List ℕ) (n : ℕ) (s : Sided rs lv n) where
       busy-of : (ws : List Lvl) → ((i : ℕ) → i < length ws → 1 ≤ length (nth ws i .queue)) → Busy ws
       busy-of [] h = tt
       busy-of (w ∷ ws) h = (h 0 (omega arith), busy-of ws (λ i k. h (suc i) (omega arith)))
-
-pub busy-at : (ws : List Lvl) (i : ℕ) → Busy ws → i < length ws → 1 ≤ length (nth ws i .queue)
-busy-at [] i b h = absurd (let z : ⊥ = omega arith in z)
-busy-at (v ∷ ws) zero b h = b .0
-busy-at (v ∷ ws) (suc i) b h = busy-at ws i (b .1) (omega arith)
 
 pub ladder-sided : (rs lv : List ℕ) (n : ℕ) → Ladder rs lv n (levelsIn rs lv n) → Busy (levelsIn rs lv n) → Each rs (levelsIn rs lv n) → Sided rs lv n
 ladder-sided rs lv n a b e = record {

@@ -8,11 +8,6 @@ use borrow.Author.Tests.{not-true, not-false}
 use borrow.Author.Needs.{needs}
 use Rattle.calls.proofs.execute.Statement.{statement}
 use Rattle.calls.proofs.execute.Tie as tie
-use Rattle.calls.proofs.execute.Reads as reads
-use Rattle.calls.proofs.execute.Lts as lts
-use Rattle.desk.proofs.order.Reads as order-reads
-use Rattle.desk.proofs.withdraw.Reads as withdraw-reads
-use Rattle.whole.proofs.is_whole.Reads as is-whole-reads
 
 -- src/lib.rt:132:9
 is-whole-requires : tie.Need-is-whole-requires

@@ -1,15 +1,7 @@
 use Rattle.desk.proofs.Ordering.{trade-asks, left-asks, traded-asks, settle-asks, carries}
 use mathlib.Core.Path.{_∙_}
-use borrow.Author.Needs.{needs}
 use Rattle.desk.proofs.carry.Statement.{statement}
 use Rattle.desk.proofs.carry.Tie as tie
-use Rattle.desk.proofs.carry.Reads as reads
-use Rattle.desk.proofs.carry.Lts as lts
-use Rattle.desk.proofs.settle.Reads as settle-reads
-use Rattle.models.proofs.Statistics.traded.Reads as traded-reads
-use Rattle.order.proofs.event.Reads as event-reads
-use Rattle.order.proofs.totals.Reads as totals-reads
-use Rattle.trade.proofs.trade.Reads as trade-reads
 
 -- src/lib.rt:134:9
 trade-requires : tie.Need-trade-requires

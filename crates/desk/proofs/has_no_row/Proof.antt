@@ -1,11 +1,7 @@
 use Rattle.desk.proofs.Asking.{row-left, row-none}
 use native.Mathlib.Omega.{arith}
-use borrow.Author.Needs.{needs}
 use Rattle.desk.proofs.has_no_row.Statement.{statement}
 use Rattle.desk.proofs.has_no_row.Tie as tie
-use Rattle.desk.proofs.has_no_row.Reads as reads
-use Rattle.desk.proofs.has_no_row.Lts as lts
-use Rattle.depth.proofs.is_new_price.Reads as is-new-price-reads
 
 -- src/lib.rt:53:9
 returns : tie.Need-returns

@@ -2,9 +2,6 @@ use Rattle.desk.proofs.Ordering.{crowds-bid, crowds-ask}
 use borrow.Author.Needs.{needs}
 use Rattle.desk.proofs.is_crowded.Statement.{statement}
 use Rattle.desk.proofs.is_crowded.Tie as tie
-use Rattle.desk.proofs.is_crowded.Reads as reads
-use Rattle.desk.proofs.is_crowded.Lts as lts
-use Rattle.desk.proofs.has_no_row.Reads as has-no-row-reads
 
 -- src/lib.rt:80:22
 enum-told : tie.Need-enum-told

@@ -1,6 +1,4 @@
 use Rattle.desk.proofs.Ordering.{outlook-left, crowds-here}
-use Rattle.desk.specs.Stock.{Stock}
-use mathlib.Core.Path.{sym}
 use Rattle.desk.proofs.Asking.{sound-matchable}
 use Rattle.desk.proofs.Ordering.{order-refused, order-none, order-accepted}
 use Rattle.depth.proofs.Desk.{standing-bids, standing-asks}
@@ -9,14 +7,6 @@ use mathlib.Core.Path.{refl}
 use borrow.Author.Needs.{needs}
 use Rattle.desk.proofs.order.Statement.{statement}
 use Rattle.desk.proofs.order.Tie as tie
-use Rattle.desk.proofs.order.Reads as reads
-use Rattle.desk.proofs.order.Lts as lts
-use Rattle.desk.proofs.carry.Reads as carry-reads
-use Rattle.desk.proofs.is_crowded.Reads as is-crowded-reads
-use Rattle.desk.proofs.outlook.Reads as outlook-reads
-use Rattle.models.proofs.rows.fill_places.Reads as fill-places-reads
-use Rattle.order.proofs.refusal.Reads as refusal-reads
-use Rattle.order.proofs.rests.Reads as rests-reads
 
 -- src/lib.rt:168:9
 outlook-requires : tie.Need-outlook-requires

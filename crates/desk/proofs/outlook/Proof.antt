@@ -1,11 +1,7 @@
 use Rattle.desk.proofs.Asking.{foretells-bid, foretells-ask}
-use Rattle.desk.proofs.Asking.{sound-matchable}
 use borrow.Author.Needs.{needs}
 use Rattle.desk.proofs.outlook.Statement.{statement}
 use Rattle.desk.proofs.outlook.Tie as tie
-use Rattle.desk.proofs.outlook.Reads as reads
-use Rattle.desk.proofs.outlook.Lts as lts
-use Rattle.survey.proofs.survey.Reads as survey-reads
 
 -- src/lib.rt:42:22
 enum-told : tie.Need-enum-told

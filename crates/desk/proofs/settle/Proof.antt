@@ -4,10 +4,6 @@ use borrow.Author.Tests.{not-true, not-false}
 use borrow.Author.Needs.{needs}
 use Rattle.desk.proofs.settle.Statement.{statement}
 use Rattle.desk.proofs.settle.Tie as tie
-use Rattle.desk.proofs.settle.Reads as reads
-use Rattle.desk.proofs.settle.Lts as lts
-use Rattle.desk.proofs.is_ask.Reads as is-ask-reads
-use Rattle.ledger.proofs.rest.Reads as rest-reads
 
 -- src/lib.rt:110:9
 returns : tie.Need-returns

@@ -1,10 +1,6 @@
 use Rattle.desk.proofs.Asking.{cancel-asks, withdrawn}
-use borrow.Author.Needs.{needs}
 use Rattle.desk.proofs.withdraw.Statement.{statement}
 use Rattle.desk.proofs.withdraw.Tie as tie
-use Rattle.desk.proofs.withdraw.Reads as reads
-use Rattle.desk.proofs.withdraw.Lts as lts
-use Rattle.ledger.proofs.cancel.Reads as cancel-reads
 
 -- src/lib.rt:71:5
 cancel-requires : tie.Need-cancel-requires

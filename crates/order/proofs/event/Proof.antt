@@ -1,10 +1,8 @@
 use Rattle.order.proofs.Deciding.{event-none, event-whole, event-part}
-use mathlib.Core.Path.{sym, _∙_, ap}
+use mathlib.Core.Path.{sym, _∙_}
 use borrow.Author.Needs.{needs}
 use Rattle.order.proofs.event.Statement.{statement}
 use Rattle.order.proofs.event.Tie as tie
-use Rattle.order.proofs.event.Reads as reads
-use Rattle.order.proofs.event.Lts as lts
 
 -- src/lib.rt:92:13
 returns : tie.Need-returns

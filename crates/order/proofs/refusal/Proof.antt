@@ -1,15 +1,11 @@
 use Rattle.order.proofs.Deciding.{decided-room, decided-sum, decided-none, decided-full, decided-crowded, decided-fine, says}
-use mathlib.Core.Path.{sym, _∙_}
+use mathlib.Core.Path.{sym}
 use mathlib.Core.Bool.{true, false}
 use borrow.Author.Tests.{not-true, not-false}
 use native.Mathlib.Omega.{arith}
 use borrow.Author.Needs.{needs}
 use Rattle.order.proofs.refusal.Statement.{statement}
 use Rattle.order.proofs.refusal.Tie as tie
-use Rattle.order.proofs.refusal.Reads as reads
-use Rattle.order.proofs.refusal.Lts as lts
-use Rattle.models.proofs.Statistics.too_large.Reads as too-large-reads
-use Rattle.order.proofs.totals.Reads as totals-reads
 
 -- src/lib.rt:59:9
 returns : tie.Need-returns

@@ -1,10 +1,7 @@
 use Rattle.order.proofs.Deciding.{remains-none, remains-some}
 use mathlib.Core.Path.{sym}
-use borrow.Author.Needs.{needs}
 use Rattle.order.proofs.rests.Statement.{statement}
 use Rattle.order.proofs.rests.Tie as tie
-use Rattle.order.proofs.rests.Reads as reads
-use Rattle.order.proofs.rests.Lts as lts
 
 -- src/lib.rt:30:9
 returns : tie.Need-returns

@@ -1,9 +1,6 @@
 use borrow.Author.Needs.{needs}
 use Rattle.order.proofs.totals.Statement.{statement}
 use Rattle.order.proofs.totals.Tie as tie
-use Rattle.order.proofs.totals.Reads as reads
-use Rattle.order.proofs.totals.Lts as lts
-use Rattle.models.proofs.sums.exact.Reads as exact-reads
 
 -- src/lib.rt:41:26
 sub-exact : tie.Need-sub-exact
