@@ -3,11 +3,14 @@ ghost use mathlib.Core.Path.{_≡_};
 ghost use mathlib.Core.Bool.{Bool, true};
 ghost use Prim.Native.Nat.{ℕ, _+_, _<_, _≤_};
 ghost use lib.ListN.{length, replicate};
-ghost use Rattle.search.specs.Seek.{inside, home, next, dist, stops, sought, Good, entering, removing, forgetting, Pointing, Tells, Right};
+ghost use Rattle.search.specs.Seek.{inside, home, Masks, next, dist, stops, sought, Good, entering, removing, forgetting, Pointing, Tells, Right};
 ghost use Rattle.records.specs.Rows.{Row};
 use records::ID;
 use records::WIDTH;
 use records::load;
+
+// No mask: a home takes a division.
+const NO_MASK: u64 = 0;
 
 // Where a search ended, the entry it found there (0 for none), and how many places it looked at.
 pub struct Probe {
@@ -38,12 +41,31 @@ fn steps(m: usize, a: usize, b: usize) -> usize
     m - (a - b)
 }
 
-// An id's home on a ring of `m` places.
-fn home_of(m: usize, id: u64) -> usize
+// A mask for the homes on a ring of `m` places: m - 1 where m is a power of two, so that no home takes a division; else 0.
+pub fn mask_of(m: usize) -> u64
     requires { ⌜ 0 < m ⌝ }
+    ensures { λ r. ⌜ Masks m r ⌝ }
+{
+    let half = m / 2;
+    let mut w = 1;
+    while w <= half {
+        w += w;
+    }
+    if w == m {
+        return (m - 1) as u64;
+    }
+    NO_MASK
+}
+
+// An id's home on a ring of `m` places.
+pub fn home_of(m: usize, mask: u64, id: u64) -> usize
+    requires { ⌜ (0 < m) × Masks m mask ⌝ }
     ensures { λ r. ⌜ r ≡ home m id ⌝ }
 {
-    (id % (m as u64)) as usize
+    if mask == NO_MASK {
+        return (id % (m as u64)) as usize;
+    }
+    (id & mask) as usize
 }
 
 // Whether entry `e` stands for a record.
@@ -76,7 +98,7 @@ pub fn find(table: &[u64], records: &[u64], id: u64) -> Probe
         × (r .count ≡ (sought (now (table .entry)) (now (records .entry)) id) .count) ⌝ }
 {
     let m = table.len();
-    let mut p = home_of(m, id);
+    let mut p = home_of(m, NO_MASK, id);
     let mut n = 0;
     while n < m {
         let e = table[p];
@@ -114,6 +136,7 @@ pub fn remove(table: &mut [u64], records: &[u64], place: usize)
     ensures { λ _. ⌜ now (table .exit) ≡ removing (now (table .entry)) (now (records .entry)) place ⌝ }
 {
     let m = table.len();
+    let mask = mask_of(m);
     table[place] = 0;
     let mut hole = place;
     let mut j = after(m, place);
@@ -124,7 +147,7 @@ pub fn remove(table: &mut [u64], records: &[u64], place: usize)
         if e == 0 {
             return;
         }
-        let h = home_of(m, load(records, ID, e));
+        let h = home_of(m, mask, load(records, ID, e));
         let before = steps(m, h, hole);
         let far = steps(m, h, j);
         let k = after(m, j);

@@ -1,11 +1,10 @@
--- The search: masks for the homes, the way from an id's home to its place, and what the check of a place says. Assumes nothing.
-use Prim.Native.Nat.{suc, ℕ, _+_, _-_, _^_, _<_, _≤_}
+-- The search: the way from an id's home to its place, and what the check of a place says. Assumes nothing.
+use Prim.Native.Nat.{suc, ℕ, _+_, _-_, _<_, _≤_}
 use mathlib.Core.Bool.{Bool, false, true}
 use mathlib.Core.List.{List}
 use mathlib.Core.Logic.{_≢_, ⊎-elim}
 use mathlib.Core.Path.{ap, refl, sym, _∙_, _≡_}
 use native.Mathlib.Omega.{arith}
-use lib.Bits.{and-mask}
 use lib.ListN.{length}
 use borrow.Author.Tests.{ne-eqb}
 use Rattle.records.specs.Rows.{Row, field, places}
@@ -15,33 +14,13 @@ use Rattle.search.specs.Seek.{at, dist, home, next, sought, stops, walk}
 use Rattle.search.proofs.Distance.{dist-lt, dist-next, home-lt, next-is, next-lt}
 use Rattle.search.proofs.Entries.{row-inside}
 use Rattle.search.proofs.Walks.{stops-free, stops-in, stops-named, walk-on, walk-stop}
-use Rattle.whole.specs.Check.{Judges, Live, Masks, Table}
+use Rattle.whole.specs.Check.{Judges, Live, Table}
 
 pub judge-yes : {P Q : Type 0} → P → Judges true P Q
 judge-yes p = record { yea = λ _. p; nay = λ e _. tell true refl e }
 
 pub judge-no : {P Q : Type 0} → (Q → ⊥) → Judges false P Q
 judge-no n = record { yea = λ e. absurd (tell true refl (sym e)); nay = λ _. n }
-
--- ## Masks
-
-pub record Power (w : ℕ) : Type 0 where
-  pub exponent : ℕ
-  pub is : w ≡ 2 ^ exponent
-
-pub power-one : Power 1
-power-one = record { exponent = 0; is = refl }
-
-pub power-twice : (w : ℕ) → Power w → Power (w + w)
-power-twice w p = record { exponent = suc (p .exponent); is = rw (p .is) (omega arith) }
-
-pub masks : (m w : ℕ) → w ≡ m → Power w → Masks m (m - 1)
-masks m w e p =
-    let q : m ≡ 2 ^ (p .exponent) = sym e ∙ p .is in
-    record { home = λ _ id. rw q (and-mask id (p .exponent)) }
-
-pub masks-none : (m : ℕ) → Masks m 0
-masks-none m = record { home = λ n. absurd (n refl) }
 
 -- ## The way from an id's home
 

@@ -4,11 +4,10 @@ use mathlib.Core.Bool.{Bool, cond, false, true}
 use mathlib.Core.List.{List}
 use mathlib.Core.Logic.{_≢_}
 use mathlib.Core.Path.{_≡_}
-use lib.Bits.{bitAnd}
 use lib.Dec.{eqb, leb}
 use lib.ListN.{length}
 use Rattle.records.specs.Rows.{Row, field, places}
-use Rattle.search.specs.Seek.{at, home, sought}
+use Rattle.search.specs.Seek.{at, sought}
 use Rattle.arena.specs.Free.{chain}
 use Rattle.arena.specs.Links.{headOf, link, priceOf, tailOf}
 use Rattle.arena.specs.Ring.{Run}
@@ -80,10 +79,6 @@ idles rs (suc k) zero = false
 idles rs (suc k) (suc r) = cond (idle rs (suc r)) (idles rs k (field rs 3 (suc r))) false
 
 -- ## The search
-
--- k masks the homes of m places: what an id has in common with k is its home. Or k is 0, and masks none
-pub record Masks (m k : ℕ) : Type 0 where
-  pub home : k ≢ 0 → (id : ℕ) → bitAnd id k ≡ home m id
 
 -- place p of the search is free, or has a resting order at whose place the search for its id ends
 abbrev pub Live : List ℕ → List ℕ → ℕ → Type 0

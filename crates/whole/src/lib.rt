@@ -6,9 +6,9 @@ ghost use mathlib.Core.Bool.{false, true};
 ghost use Prim.Native.Nat.{ℕ, _+_, _*_, _<_, _≤_};
 ghost use lib.ListN.{length};
 ghost use Rattle.records.specs.Rows.{Row, field, places};
-ghost use Rattle.search.specs.Seek.{Tells, at, home, next, sought, stops};
+ghost use Rattle.search.specs.Seek.{Masks, Tells, at, home, next, sought, stops};
 ghost use Rattle.whole.specs.Whole.{Whole, Lengths, Limits, sizeOf};
-ghost use Rattle.whole.specs.Check.{Judges, fit, walked, Rises, Totals, Parted, idle, idles, Masks, Live, Table};
+ghost use Rattle.whole.specs.Check.{Judges, fit, walked, Rises, Totals, Parted, idle, idles, Live, Table};
 use arena::HEAD;
 use arena::ROW;
 use arena::TAIL;
@@ -20,6 +20,8 @@ use records::PRICE;
 use records::QUANTITY;
 use records::WIDTH;
 use records::load;
+use search::home_of;
+use search::mask_of;
 
 // The size of a hall: how many orders may rest, and how many prices a side may have.
 pub struct Size {
@@ -207,33 +209,6 @@ fn is_spare(records: &[u64], free: u64, count: usize) -> bool
         k -= 1;
     }
     c == 0
-}
-
-// A mask for the homes of `m` places: m - 1 where m is a power of two, so that no home takes a division; else 0.
-fn mask_of(m: usize) -> u64
-    requires { ⌜ 1 ≤ m ⌝ }
-    ensures { λ r. ⌜ Masks m r ⌝ }
-{
-    let half = m / 2;
-    let mut w = 1;
-    while w <= half {
-        w += w;
-    }
-    if w == m {
-        return (m - 1) as u64;
-    }
-    0
-}
-
-// An id's home among `m` places.
-fn home_of(m: usize, mask: u64, id: u64) -> usize
-    requires { ⌜ (1 ≤ m) × Masks m mask ⌝ }
-    ensures { λ r. ⌜ r ≡ home m id ⌝ }
-{
-    if mask == 0 {
-        return (id % (m as u64)) as usize;
-    }
-    (id & mask) as usize
 }
 
 // Whether entry `e` stands in no one's way: it is the code of a record with another id.

@@ -7,6 +7,7 @@ use lib.ListN.{length}
 use borrow.Author.Needs.{needs}
 use Rattle.search.specs.Seek.{sought, walk}
 use Rattle.search.proofs.Distance.{home-lt, next-lt}
+use Rattle.search.proofs.Masks.{masks-none}
 use Rattle.search.proofs.Walks.{turn-on, turn-stop, walk-none}
 use Rattle.search.proofs.find.Statement.{statement}
 use Rattle.search.proofs.find.Tie as tie
@@ -18,7 +19,7 @@ abbrev μ-loop : tie.MeasureT-loop
 μ-loop table rs id m p₀ n₀ p n = length table - n
 
 home-of-requires : tie.Need-home-of-requires Inv-loop μ-loop
-home-of-requires c κs = search needs
+home-of-requires c κs = (search needs, masks-none _)
 
 loop-holds : tie.Need-loop-holds Inv-loop μ-loop
 loop-holds c =

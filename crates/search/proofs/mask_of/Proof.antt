@@ -1,10 +1,10 @@
--- `whole::mask_of` meets its contract. The invariant: `w` is a power of two, at most m. Assumes nothing.
+-- `search::mask_of` meets its contract. The invariant: `w` is a power of two, at most m. Assumes nothing.
 use Prim.Native.Nat.{_-_, _/_, _≤_}
 use native.Mathlib.Omega.{arith}
 use mathlib.Core.Path.{refl, _≡_}
-use Rattle.whole.proofs.Table.{Power, power-one, power-twice, masks, masks-none}
-use Rattle.whole.proofs.mask_of.Statement.{statement}
-use Rattle.whole.proofs.mask_of.Tie as tie
+use Rattle.search.proofs.Masks.{Power, power-one, power-twice, masks, masks-none}
+use Rattle.search.proofs.mask_of.Statement.{statement}
+use Rattle.search.proofs.mask_of.Tie as tie
 
 abbrev Inv-loop : tie.InvT-loop
 Inv-loop m half w₀ w = (half ≡ m / 2) × (1 ≤ w) × (w ≤ m) × Power w
