@@ -90,6 +90,12 @@ uint64_t felavuti_depth(const uint64_t desk[12], const uint64_t *records, size_t
 uint64_t felavuti_get(const uint64_t desk[12], const uint64_t *records, size_t records_len, const uint64_t *bids, size_t bids_len,
                       const uint64_t *asks, size_t asks_len, const uint64_t *search, size_t search_len, uint64_t id, uint64_t answer[4]);
 
+/* Whether a stored book is whole, at any size: room for `orders` resting orders and `prices` prices a side (1024 and 128 for all other calls). Then records
+ * have 5 * orders numbers, bids and asks 3 * prices each, and the search 2 * orders places: an id's home is the id modulo that. Of the desk's numbers
+ * [0] to [3] count. Returns 0 where the book is whole, and 1 where it isn't, a length is wrong, or orders is 0. It changes nothing. */
+uint64_t felavuti_check(size_t orders, size_t prices, const uint64_t desk[12], const uint64_t *records, size_t records_len, const uint64_t *bids,
+                        size_t bids_len, const uint64_t *asks, size_t asks_len, const uint64_t *search, size_t search_len);
+
 /* Switches tracking: desk[4] becomes 0 where on is 0, and 1 otherwise; nothing else changes. Never refused: it returns 0. */
 uint64_t felavuti_track_stats(uint64_t desk[12], uint64_t on);
 

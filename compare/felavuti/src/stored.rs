@@ -64,13 +64,17 @@ mod raw {
             desk: *const u64, records: *const u64, records_len: usize, bids: *const u64, bids_len: usize, asks: *const u64,
             asks_len: usize, search: *const u64, search_len: usize, id: u64, answer: *mut u64,
         ) -> u64;
+        pub fn felavuti_check(
+            orders: usize, prices: usize, desk: *const u64, records: *const u64, records_len: usize, bids: *const u64,
+            bids_len: usize, asks: *const u64, asks_len: usize, search: *const u64, search_len: usize,
+        ) -> u64;
         pub fn felavuti_track_stats(desk: *mut u64, on: u64) -> u64;
     }
 }
 
 /// How large a book is.
 ///
-/// The library's calls know one size, [`Size::BASE`]; others are here for a library whose calls take the size.
+/// The library's calls know one size, [`Size::BASE`]; [`Stored::check`] takes any.
 #[derive(Debug, Copy, Clone, PartialEq, Eq)]
 pub struct Size {
     /// How many orders can rest.
@@ -105,13 +109,13 @@ pub struct Stored {
 
 /// The lent numbers of a book as C arguments: pointer, then length, and the twelve numbers by pointer alone.
 macro_rules! shared {
-    ($call:ident, $s:expr, $($rest:expr),*) => {
+    ($call:ident $([$($first:expr),+])?, $s:expr $(, $rest:expr)*) => {
         // Sound: each pointer comes from a slice or an array of the stated length that outlives the call, and the library is
         // proved to keep inside them for any contents and any lengths.
         unsafe {
             raw::$call(
-                $s.desk.as_ptr(), $s.records.as_ptr(), $s.records.len(), $s.bids.as_ptr(), $s.bids.len(), $s.asks.as_ptr(),
-                $s.asks.len(), $s.search.as_ptr(), $s.search.len(), $($rest),*
+                $($($first,)+)? $s.desk.as_ptr(), $s.records.as_ptr(), $s.records.len(), $s.bids.as_ptr(), $s.bids.len(),
+                $s.asks.as_ptr(), $s.asks.len(), $s.search.as_ptr(), $s.search.len() $(, $rest)*
             )
         }
     };
@@ -186,6 +190,11 @@ impl Stored {
     /// The order found under an id. `answer`: found (0 or 1), price, quantity, places looked at.
     pub fn get(&self, id: u64, answer: &mut [u64; 4]) -> u64 {
         shared!(felavuti_get, self, id, answer.as_mut_ptr())
+    }
+
+    /// Whether the stored book is whole at a size, which may be any: 0, or 1 where it isn't.
+    pub fn check(&self, size: Size) -> u64 {
+        shared!(felavuti_check[size.orders, size.prices], self)
     }
 
     /// Switches tracking. It is never refused.

@@ -13,6 +13,7 @@ use Rattle.models.specs.declared.Side.{Side}
 use Rattle.models.specs.declared.Side.the-variants.{Bid, Ask}
 use Rattle.models.specs.declared.Statistics.{Statistics}
 use Rattle.ledger.specs.declared.OrderBook.{OrderBook}
+use Rattle.whole.specs.Whole.{Whole}
 use Rattle.depth.specs.declared.Lookup.{Lookup}
 use Rattle.depth.specs.declared.Quote.{Quote}
 use Rattle.desk.specs.declared.Answer.{Answer}
@@ -94,3 +95,10 @@ pub record Opened (d rs bd ak se : List ℕ) (n : ℕ) (d′ rs′ bd′ ak′ s
   pub answer : Opening
   pub makes : Makes rule.hall rs bd ak se answer rs′ bd′ ak′ se′
   pub reported : Opens d answer n d′
+
+-- ---- is it whole?
+
+-- the result n of the check at the size z
+pub data Checked (z : rule.Size) (d rs bd ak se : List ℕ) (n : ℕ) : Type 0 where
+  whole : Whole z (bookIn d) rs bd ak se → n ≡ 0 → Checked z d rs bd ak se n
+  broken : (Whole z (bookIn d) rs bd ak se → ⊥) → n ≡ 1 → Checked z d rs bd ak se n

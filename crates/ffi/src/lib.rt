@@ -1,4 +1,4 @@
-// The desk of the base for C and Rust: every public call of `orderbook` as an exported function. A slice passes as a pointer and a length, the twelve numbers of
+// The desk of the base for C and Rust: every public call of `orderbook` as an exported function, and the check of a whole book at any size. A slice passes as a pointer and a length, the twelve numbers of
 // a desk and the four of an answer as pointers; each returns 0, or the number of the refusal, in which case nothing lent has changed. include/felavuti.h is the header.
 ghost use mathlib.Core.Path.{_≡_};
 ghost use mathlib.Core.List.{[]};
@@ -11,13 +11,14 @@ ghost use Rattle.models.specs.Readings.{callOf};
 ghost use Rattle.models.specs.Rows.{fillRow, places};
 ghost use Rattle.calls.specs.Calls.{lowestAsk, highestBid, spreadOf};
 ghost use Rattle.ffi.specs.Numbers.{yes};
-ghost use Rattle.ffi.specs.Exports.{Carried, Sided, Asked, Deepened, Sought, Opened};
+ghost use Rattle.ffi.specs.Exports.{Carried, Sided, Asked, Deepened, Sought, Opened, Checked};
 use crate::numbers::ANSWER;
 use crate::numbers::DESK;
 use crate::numbers::TRACKING;
 use models::Id;
 use models::Price;
 use models::Quantity;
+use whole::Size;
 
 pub mod bits; // bits.rt: an average from its bit pattern
 pub mod numbers; // numbers.rt: the small values and the answers as numbers
@@ -277,6 +278,26 @@ pub extern "C" fn felavuti_get(
     let numbers = o.answer;
     *answer = numbers;
     o.code
+}
+
+// Whether a stored book is whole, at any size: 0, or 1 where it isn't.
+#[no_mangle]
+pub extern "C" fn felavuti_check(
+    orders: usize,
+    prices: usize,
+    desk: &[u64; DESK],
+    records: &[u64],
+    bids: &[u64],
+    asks: &[u64],
+    search: &[u64],
+) -> u64
+    ensures { λ r. ⌜ Checked (record { orders = orders; prices = prices }) (now (desk .entry)) (now (records .entry)) (now (bids .entry)) (now (asks .entry)) (now (search .entry)) r ⌝ }
+{
+    let book = numbers::book_of(*desk);
+    if whole::is_whole(Size { orders, prices }, book, records, bids, asks, search) {
+        return outcome::ACCEPTED;
+    }
+    calls::NOT_WHOLE
 }
 
 // Switched tracking: no other number changes. Never refused.
