@@ -2,7 +2,7 @@
 //! lent slice and value is compared before and after, number for number.
 //!
 //! The library's calls know one size (`Size::BASE`). A call that takes a size has its place in `SIZES`: books, damage and the
-//! plain rules here take any.
+//! plain rules here take any. The check alone takes one so far: see `check.rs`.
 
 use crate::books::{equal, Books};
 use crate::damage::{changed_number, changed_together};
@@ -250,6 +250,8 @@ fn damaged(size: Size, seed: u64, rounds: u64) -> Result<(Counts, BTreeMap<&'sta
         }
         let verdict = whole(size, &stored);
         *sentences.entry(verdict.err().unwrap_or("(still whole)")).or_default() += 1;
+        let due = if verdict.is_ok() { 0 } else { Refusal::NotWhole.number() };
+        equal(&format!("the check; damage: {hurt:?}"), &stored.check(size), &due)?;
         let steps = [(); 3].map(|()| Call::Step(books.drawn()));
         let others = [Call::MinAsk, Call::MaxBid, Call::Spread, Call::Depth(1), Call::Get(books.random.below(50))];
         for call in steps.into_iter().chain(others) {
