@@ -6,7 +6,7 @@ use crate::plain::Plain;
 use crate::random::Random;
 use crate::shapes::{named, Draw};
 use crate::step::{limit, market, Step};
-use felavuti::{FillRow, OrderBook, OrderType, Side, Size, ORDERS, PRICES};
+use felavuti::{FillRow, OrderBook, OrderType, Side, Size, ORDERS, PLACES, PRICES};
 use std::fmt::Write as _;
 use std::hint::black_box;
 use std::path::Path;
@@ -234,6 +234,58 @@ fn single_calls(repetitions: usize) -> String {
     out
 }
 
+/// A book through which many orders have gone: any ids, records, free places and entries of the search in any order.
+fn worn(resting: usize, seed: u64) -> OrderBook {
+    let mut random = Random::new(seed);
+    let mut book = OrderBook::default();
+    let mut ids: Vec<u64> = vec![];
+    for n in 0..5 * ORDERS {
+        if n >= ORDERS {
+            let gone = ids.swap_remove(random.below(ids.len() as u64) as usize);
+            book.carry_out(crate::step::cancel(gone));
+        }
+        let id = random.any();
+        let price = random.below(64);
+        match random.one_in(2) {
+            true => book.carry_out(limit(id, Side::Bid, 10, 10_000 - price)),
+            false => book.carry_out(limit(id, Side::Ask, 10, 20_000 + price)),
+        }
+        ids.push(id);
+    }
+    ids.drain(resting..).for_each(|id| book.carry_out(crate::step::cancel(id)));
+    book
+}
+
+/// A full book in which all ids have one home: the search for the last looks at every entry.
+fn one_home(seed: u64) -> OrderBook {
+    let mut book = OrderBook::default();
+    (0..ORDERS as u64).for_each(|n| book.carry_out(limit(seed + PLACES as u64 * n, Side::Ask, 10, 20_000 + n % 64)));
+    book
+}
+
+/// What the check of a whole book costs: of one book again and again, and of several in turn.
+pub fn checks(repetitions: usize) -> String {
+    let mut out =
+        String::from("| book | resting orders | one book again and again, ns | sixteen books in turn, ns |\n|---|---|---|---|\n");
+    let mut row = |name: &str, resting: usize, repetitions: usize, make: &dyn Fn(u64) -> OrderBook| {
+        let books: Vec<OrderBook> = (1..=BATCH as u64).map(make).collect();
+        let check = |book: &OrderBook| assert_eq!(black_box(book.stored()).check(Size::BASE), 0, "the book is whole");
+        let time = |f: &dyn Fn()| median((0..repetitions).map(|_| worked(BATCH, f)).collect());
+        let one = time(&|| (0..BATCH).for_each(|_| check(&books[0])));
+        let several = time(&|| books.iter().for_each(check));
+        println!("  the check, {name}, {resting} resting: {one:.0} ns one book, {several:.0} ns sixteen in turn");
+        writeln!(out, "| {name} | {resting} | {one:.0} | {several:.0} |").expect("a string takes any text");
+    };
+    for resting in [0, 504, ORDERS] {
+        row("orders as they came, ids 1, 2, 3 ..", resting, repetitions, &|_| filled(OrderBook::default(), resting as u64, 64));
+    }
+    for resting in [0, 504, ORDERS] {
+        row("any ids, after 4,096 cancels", resting, repetitions, &|seed| worn(resting, seed));
+    }
+    row("all ids of one home", ORDERS, repetitions / 10 + 1, &one_home);
+    out
+}
+
 /// Gives a desk the steps that make a book.
 type Build<'a> = &'a dyn Fn(&mut dyn FnMut(Step));
 
@@ -339,6 +391,13 @@ pub fn run(plan: &Plan, folder: &Path) -> Result<(), String> {
          `lowest ask` (the check and one look) in the call's cost.\n\n{}",
         ORDERS - BATCH,
         single_calls(repetitions)
+    )
+    .expect("a string takes any text");
+    write!(
+        text,
+        "\n## Is the book whole?\n\nThe check by itself, through `felavuti_check`: processor time, median of {repetitions} batches of {BATCH} (fewer where all ids have \
+         one home).\n\n{}",
+        checks(repetitions)
     )
     .expect("a string takes any text");
     let growth = growth(repetitions);

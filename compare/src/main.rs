@@ -6,11 +6,13 @@ extern crate lobster_checked;
 
 mod bench;
 mod books;
+mod check;
 mod damage;
 mod examples;
 mod gaps;
 mod histories;
 mod judge;
+mod layout;
 mod plain;
 mod plot;
 mod random;
@@ -30,12 +32,16 @@ compare histories [--orders N] [--seed S] [--shape NAME [--history K]] [--thread
                                      random histories; N counts compared steps over all shapes
 compare refused [--rounds N] [--seed S]
                                      refused calls: short buffers, damaged books, wrong lengths
+compare whole [--books N] [--seed S]
+                                     is it whole?: N good books of each small size and their damage
 compare stored (--out DIR | --check DIR)
                                      the fixed orders (DIR/stdin) and lobster's answers to them (DIR/stdout)
 compare examples                     document 01's own examples
 compare gaps                         where lobster's comments and its behaviour differ, by running
 compare bench [--out DIR] [--orders N] [--repetitions R]
                                      speed: bench.md, growth.csv and plots
+compare bench check [--repetitions R]
+                                     speed of the check of a whole book alone
 compare plot DIR                     the plots again, from DIR/growth.csv
 compare try 'limit ask 1 10 105; market bid 2 5; depth 1'
                                      lobster and ours on a script of your own
@@ -69,8 +75,9 @@ fn quick(words: &[String]) -> Result<bool, String> {
     let examples = examples::run();
     let histories = histories::run(&histories_plan(words, 220_000)?);
     let refused = refused::run(number(words, "--seed", 1)?, 2_000);
+    let whole = check::run(number(words, "--seed", 1)?, 200);
     let gaps = gaps::run(true);
-    Ok(examples && histories && refused && gaps)
+    Ok(examples && histories && refused && whole && gaps)
 }
 
 fn bench_folder(words: &[String]) -> Result<PathBuf, String> {
@@ -87,6 +94,7 @@ fn done(words: &[String]) -> Result<bool, String> {
         None | Some("quick") => quick(words),
         Some("histories") => Ok(histories::run(&histories_plan(words, 1_000_000)?)),
         Some("refused") => Ok(refused::run(number(words, "--seed", 1)?, number(words, "--rounds", 20_000)?)),
+        Some("whole") => Ok(check::run(number(words, "--seed", 1)?, number(words, "--books", 500)?)),
         Some("examples") => Ok(examples::run()),
         Some("gaps") => Ok(gaps::run(false)),
         Some("stored") => match (option(words, "--out"), option(words, "--check")) {
@@ -97,6 +105,10 @@ fn done(words: &[String]) -> Result<bool, String> {
         Some("bench") => {
             let orders = number(words, "--orders", 100_000)? as usize;
             let repetitions = number(words, "--repetitions", 7)? as usize;
+            if words.get(1).is_some_and(|word| word == "check") {
+                print!("{}", bench::checks(40 * repetitions));
+                return Ok(true);
+            }
             bench::run(&bench::Plan { orders, repetitions }, &bench_folder(words)?).map(|()| true)
         }
         Some("plot") => plot::run(words.get(1).ok_or("plot wants a folder")?.as_ref()).map(|()| true),

@@ -7,9 +7,10 @@ use felavuti::{Size, Stored};
 pub fn whole(size: Size, stored: &Stored) -> Result<(), &'static str> {
     let Stored { desk, records, bids, asks, search } = stored;
     let [resting, free, bid_prices, ask_prices] = [desk[0], desk[1], desk[2], desk[3]];
-    let lengths = [records.len(), bids.len(), asks.len(), search.len()];
-    if lengths != [size.orders * 5, size.prices * 3, size.prices * 3, size.orders * 2] {
-        return Err("storage has the right lengths");
+    let lengths = [records.len(), bids.len(), asks.len(), search.len()].map(|length| length as u128);
+    let [orders, prices] = [size.orders, size.prices].map(|number| number as u128);
+    if orders == 0 || lengths != [orders * 5, prices * 3, prices * 3, orders * 2] {
+        return Err("storage has the right lengths, for one order at least");
     }
     if resting > size.orders as u64 || bid_prices > size.prices as u64 || ask_prices > size.prices as u64 {
         return Err("counts are within limits");
