@@ -113,6 +113,26 @@ fn levels(asked: usize, asks: &[(u64, u64)], bids: &[(u64, u64)]) -> String {
     format!("depth {asked}: asks{}, bids{}", list(asks), list(bids))
 }
 
+/// The lines to which lobster and ours answer by calls of the same names.
+macro_rules! said_alike {
+    ($desk:expr, $line:expr) => {
+        match $line {
+            Line::Track(on) => {
+                $desk.track_stats(on);
+                format!("tracking {}", if on { "on" } else { "off" })
+            }
+            Line::Ask => format!("ask {}", or_dash($desk.min_ask())),
+            Line::Bid => format!("bid {}", or_dash($desk.max_bid())),
+            Line::Spread => format!("spread {}", or_dash($desk.spread())),
+            Line::Volume => format!("volume {}", $desk.traded_volume()),
+            Line::Last => $desk.last_trade().map_or("last -".into(), |t| {
+                format!("last {}, average {:?}, {} at {}", t.total_qty, t.avg_price, t.last_qty, t.last_price)
+            }),
+            ref line => unreachable!("{line:?} is answered before"),
+        }
+    };
+}
+
 /// A desk that is a book of one of lobster's builds.
 macro_rules! lobster_desk {
     ($module:ident, $lobster:ident) => {
@@ -151,22 +171,12 @@ macro_rules! lobster_desk {
                             told(self.execute(OrderType::Limit { id, side: side_of(side), qty, price }))
                         }
                         Line::Cancel(id) => told(self.execute(OrderType::Cancel { id })),
-                        Line::Track(on) => {
-                            self.track_stats(on);
-                            format!("tracking {}", if on { "on" } else { "off" })
-                        }
                         Line::Depth(asked) => {
                             let depth = self.depth(asked);
                             levels(depth.levels, &pairs(depth.asks), &pairs(depth.bids))
                         }
-                        Line::Ask => format!("ask {}", or_dash(self.min_ask())),
-                        Line::Bid => format!("bid {}", or_dash(self.max_bid())),
-                        Line::Spread => format!("spread {}", or_dash(self.spread())),
-                        Line::Volume => format!("volume {}", self.traded_volume()),
-                        Line::Last => self.last_trade().map_or("last -".into(), |t| {
-                            format!("last {}, average {:?}, {} at {}", t.total_qty, t.avg_price, t.last_qty, t.last_price)
-                        }),
                         Line::Whole | Line::Get(_) => "(no such call)".into(),
+                        _ => said_alike!(self, *line),
                     }
                 }
             }
@@ -189,10 +199,6 @@ impl Desk for felavuti::OrderBook {
                 narrow(id).map_or_else(|no| no, |id| self.order(felavuti::OrderType::Limit { id, side, qty, price }))
             }
             Line::Cancel(id) => narrow(id).map_or_else(|no| no, |id| self.order(felavuti::OrderType::Cancel { id })),
-            Line::Track(on) => {
-                self.track_stats(on);
-                format!("tracking {}", if on { "on" } else { "off" })
-            }
             Line::Depth(asked) => match self.depth(asked) {
                 Err(refusal) => refusal.to_string(),
                 Ok(depth) => {
@@ -200,15 +206,9 @@ impl Desk for felavuti::OrderBook {
                     levels(depth.levels, &pairs(depth.asks), &pairs(depth.bids))
                 }
             },
-            Line::Ask => format!("ask {}", or_dash(self.min_ask())),
-            Line::Bid => format!("bid {}", or_dash(self.max_bid())),
-            Line::Spread => format!("spread {}", or_dash(self.spread())),
-            Line::Volume => format!("volume {}", self.traded_volume()),
-            Line::Last => self.last_trade().map_or("last -".into(), |t| {
-                format!("last {}, average {:?}, {} at {}", t.total_qty, t.avg_price, t.last_qty, t.last_price)
-            }),
             Line::Whole => self.last_trade().map_or("whole average -".into(), |t| format!("whole average {}", t.whole_avg_price)),
             Line::Get(id) => narrow(id).map_or_else(|no| no, |id| found(id, self.get(id))),
+            _ => said_alike!(self, *line),
         }
     }
 }
