@@ -1,15 +1,15 @@
--- `day::tell_fills` is safe and ends: a fill that is told has its place. Assumes nothing.
+-- `tell::fills` is safe and ends: a fill that is told has its place. Assumes nothing.
 use Prim.Native.Nat.{_-_}
 use native.Mathlib.Omega.{arith}
 use borrow.Author.Needs.{needs}
-use Rattle.day.proofs.tell_fills.Statement.{statement}
-use Rattle.day.proofs.tell_fills.Tie as tie
+use Rattle.tell.proofs.fills.Statement.{statement}
+use Rattle.tell.proofs.fills.Tie as tie
 
 abbrev Inv-loop : tie.InvT-loop
-Inv-loop fills count n i₀ i = Unit {0}
+Inv-loop rows count n i₀ i = Unit {0}
 
 abbrev μ-loop : tie.MeasureT-loop
-μ-loop fills count n i₀ i = n - i
+μ-loop rows count n i₀ i = n - i
 
 fill-places-requires : tie.Need-fill-places-requires Inv-loop μ-loop
 fill-places-requires c κs = search needs
@@ -20,8 +20,8 @@ loop-holds c = tt
 fill-at-requires : tie.Need-fill-at-requires Inv-loop μ-loop
 fill-at-requires c κs = omega arith
 
-tell-fill-requires : tie.Need-tell-fill-requires Inv-loop μ-loop
-tell-fill-requires c κs = search needs
+fill-requires : tie.Need-fill-requires Inv-loop μ-loop
+fill-requires c κs = search needs
 
 add-i : tie.Need-add-i Inv-loop μ-loop
 add-i c = omega arith
@@ -35,8 +35,8 @@ loop-again c = tt
 returns : tie.Need-returns Inv-loop μ-loop
 returns c = tt
 
-pub tell-fills-spec : {M : Type 1} → statement M
-tell-fills-spec =
+pub fills-spec : {M : Type 1} → statement M
+fills-spec =
     tie.close
     (tie.spec
     Inv-loop
@@ -44,7 +44,7 @@ tell-fills-spec =
     fill-places-requires
     loop-holds
     fill-at-requires
-    tell-fill-requires
+    fill-requires
     add-i
     loop-less
     loop-again
