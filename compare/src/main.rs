@@ -27,7 +27,7 @@ use std::path::{Path, PathBuf};
 use std::process::ExitCode;
 
 const HELP: &str = "\
-compare [quick]                      some seconds of everything below but speed; exit status 1 on any difference
+compare [quick]                      some seconds of everything below but speed; exit status above 0 on any difference
 compare histories [--orders N] [--seed S] [--shape NAME [--history K]] [--threads T]
                                      random histories; N counts compared steps over all shapes
 compare refused [--rounds N] [--seed S]
@@ -35,7 +35,8 @@ compare refused [--rounds N] [--seed S]
 compare whole [--books N] [--seed S]
                                      is it whole?: N good books of each small size and their damage
 compare stored (--out DIR | --check DIR)
-                                     the fixed orders (DIR/stdin) and lobster's answers to them (DIR/stdout)
+                                     the fixed orders (DIR/stdin) and lobster's answers to them (DIR/stdout);
+                                     those of crates/replay are written and checked with them
 compare examples                     document 01's own examples
 compare gaps                         where lobster's comments and its behaviour differ, by running
 compare bench [--out DIR] [--orders N] [--repetitions R]
@@ -70,8 +71,12 @@ fn histories_plan(words: &[String], orders: u64) -> Result<histories::Plan, Stri
     })
 }
 
+/// The program that replays lobster's answers inside the gate, with the orders and answers stored beside it.
+const REPLAY: &str = concat!(env!("CARGO_MANIFEST_DIR"), "/../crates/replay");
+
 /// Everything, for some seconds.
 fn quick(words: &[String]) -> Result<bool, String> {
+    stored::run(REPLAY.as_ref(), true)?;
     let examples = examples::run();
     let histories = histories::run(&histories_plan(words, 220_000)?);
     let refused = refused::run(number(words, "--seed", 1)?, 2_000);

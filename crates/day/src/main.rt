@@ -5,6 +5,7 @@ ghost use Prim.Native.Nat.{_≤_};
 mod lists; // lists.rt: what is done, in order
 
 use calls::Deep;
+use calls::Quoted;
 use lists::ENOUGH;
 use lists::LENGTH;
 use lists::LISTS;
@@ -43,17 +44,25 @@ fn tell_statistics(s: Statistics) {
 }
 
 // Where the book and the statistics stand.
-fn stand(d: Desk, records: &[u64], bids: &[u64], asks: &[u64], search: &[u64]) {
-    let ask = orderbook::min_ask(d.book, records, bids, asks, search);
-    let bid = orderbook::max_bid(d.book, records, bids, asks, search);
-    let spread = orderbook::spread(d.book, records, bids, asks, search);
+fn tell_standing(ask: Quoted, bid: Quoted, spread: Quoted, s: Statistics) {
     tell::quote(b"ask ", b"no ask", ask);
     put(b", ");
     tell::quote(b"bid ", b"no bid", bid);
     put(b", ");
     tell::quote(b"spread ", b"no spread", spread);
     put(b"; ");
-    tell_statistics(d.statistics);
+    tell_statistics(s);
+}
+
+// The same after an order; D1 and D2 look at depth instead.
+fn stand(d: Desk, records: &[u64], bids: &[u64], asks: &[u64], search: &[u64], list: u64) {
+    if list == 1 || list == 2 {
+        return;
+    }
+    let ask = orderbook::min_ask(d.book, records, bids, asks, search);
+    let bid = orderbook::max_bid(d.book, records, bids, asks, search);
+    let spread = orderbook::spread(d.book, records, bids, asks, search);
+    tell_standing(ask, bid, spread, d.statistics);
 }
 
 // A level, if place i has one: asks first, then bids.
@@ -140,11 +149,17 @@ fn order(
 ) -> Desk {
     let mut space = [0u64; ENOUGH];
     let n = up_to(room);
-    tell::order(o);
     script::order(d, records, bids, asks, search, &mut space[..n], o)
 }
 
-// Row i of a list: what comes in, what the desk answers, and where it stands after it; D1 and D2 look at depth instead.
+// What comes in.
+fn announce(list: u64, i: u64, room: usize, o: OrderType) {
+    tell_room(room);
+    label(list, i);
+    tell::order(o);
+}
+
+// Row i of a list.
 fn row(
     d: Desk,
     records: &mut [u64],
@@ -158,12 +173,9 @@ fn row(
     match next {
         Next::Fresh(on) => script::tracked(script::fresh(records, bids, asks, search), on),
         Next::Order(room, o) => {
-            tell_room(room);
-            label(list, i);
+            announce(list, i, room, o);
             let after = order(d, records, bids, asks, search, room, o);
-            if list != 1 && list != 2 {
-                stand(after, records, bids, asks, search);
-            }
+            stand(after, records, bids, asks, search, list);
             after
         }
         Next::Tracking(on) => {

@@ -18,9 +18,6 @@ array-borrow-prefix-space c = search needs
 slice-aggregate-order : tie.Need-slice-aggregate-order
 slice-aggregate-order c = sym (length-take-le _ _ (omega arith))
 
-order-requires-2 : tie.Need-order-requires-2
-order-requires-2 c κs = search needs
-
 same-length : tie.Need-same-length
 same-length c = search needs
 
@@ -41,10 +38,9 @@ order-spec =
     tie.close
     (tie.spec
     up-to-requires
-    order-requires
     array-borrow-prefix-space
     slice-aggregate-order
-    order-requires-2
+    order-requires
     same-length
     same-length-2
     same-length-3
