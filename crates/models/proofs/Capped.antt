@@ -4,7 +4,7 @@ use mathlib.Core.Path.{_≡_}
 use mathlib.Core.Bool.{false}
 use native.Mathlib.Omega.{arith}
 use native.Mathlib.Decide.{decLe}
-use native.Mathlib.Nat.{div-lt-iff-lt-mul, le-div-iff-mul-le}
+use native.Mathlib.Nat.{div-lt-iff-lt-mul, le-div-iff-mul-le, mul-le-mul-right}
 use borrow.Author.Tests.{le-leb, lt-leb}
 use Rattle.rules.specs.Rules.{most}
 use Rattle.models.specs.Sums.{passed, capped, plusOf}
@@ -33,3 +33,6 @@ product-over p q h o = div-lt-iff-lt-mul h .0 o
 
 pub product-fits : (p q : ℕ) → 0 < q → p ≤ most / q → p * q ≤ most
 product-fits p q h o = le-div-iff-mul-le h .0 o
+
+pub product-small : (p q : ℕ) → p < 4294967296 → q < 4294967296 → p * q ≤ most
+product-small p q h k = let l : p ≤ 4294967295 = omega arith in omega (arith, mul-le-mul-right q l)

@@ -7,6 +7,9 @@ use crate::Quantity;
 
 const MOST: u64 = 18446744073709551615;
 
+// The product of two numbers below this stays below 2^64.
+const HALF_WIDE: u64 = 4294967296;
+
 // A sum that may have passed 2^64 - 1; then `over` says so, and `sum` is 0.
 pub struct Sum {
     pub over: bool,
@@ -22,12 +25,17 @@ pub fn exact(n: u64) -> Sum
     }
 }
 
-// Price times quantity.
+// Price times quantity. Where both are small, as nearly always, no division is needed to see that their product is.
 pub fn product(price: Price, qty: Quantity) -> Sum
     ensures { λ r. ⌜ r ≡ capped (price .0 * qty .0) ⌝ }
 {
     let p = price.0;
     let q = qty.0;
+    if p < HALF_WIDE {
+        if q < HALF_WIDE {
+            return exact(p * q);
+        }
+    }
     if q == 0 {
         return Sum {
             over: false,
