@@ -5,7 +5,6 @@ ghost use Prim.Native.Nat.{_≤_};
 mod lists; // lists.rt: what is done, in order
 
 use calls::Deep;
-use calls::Quoted;
 use lists::ENOUGH;
 use lists::LENGTH;
 use lists::LISTS;
@@ -21,9 +20,6 @@ use models::OrderType;
 use models::Statistics;
 use models::Trade;
 use models::rows;
-use orderbook::LEVELS;
-use orderbook::PLACES;
-use orderbook::RECORDS;
 use script::Desk;
 use tell::line;
 use tell::number;
@@ -43,26 +39,22 @@ fn tell_statistics(s: Statistics) {
     }
 }
 
-// Where the book and the statistics stand.
-fn tell_standing(ask: Quoted, bid: Quoted, spread: Quoted, s: Statistics) {
+// Where the book and the statistics stand after an order; D1 and D2 look at depth instead.
+fn stand(d: Desk, list: u64) {
+    if list == 1 || list == 2 {
+        return;
+    }
+    let quotes = script::quoted(d);
+    let ask = quotes.ask;
+    let bid = quotes.bid;
+    let spread = quotes.spread;
     tell::quote(b"ask ", b"no ask", ask);
     put(b", ");
     tell::quote(b"bid ", b"no bid", bid);
     put(b", ");
     tell::quote(b"spread ", b"no spread", spread);
     put(b"; ");
-    tell_statistics(s);
-}
-
-// The same after an order; D1 and D2 look at depth instead.
-fn stand(d: Desk, records: &[u64], bids: &[u64], asks: &[u64], search: &[u64], list: u64) {
-    if list == 1 || list == 2 {
-        return;
-    }
-    let ask = orderbook::min_ask(d.book, records, bids, asks, search);
-    let bid = orderbook::max_bid(d.book, records, bids, asks, search);
-    let spread = orderbook::spread(d.book, records, bids, asks, search);
-    tell_standing(ask, bid, spread, d.statistics);
+    tell_statistics(d.statistics);
 }
 
 // A level, if place i has one: asks first, then bids.
@@ -104,7 +96,7 @@ fn up_to(n: usize) -> usize
 }
 
 // Depth for one level, with so long a buffer.
-fn depth(d: Desk, records: &[u64], bids: &[u64], asks: &[u64], search: &[u64], room: usize) {
+fn depth(d: Desk, room: usize) {
     let mut space = [0u64; ENOUGH];
     let n = up_to(room);
     let out = &mut space[..n];
@@ -112,7 +104,7 @@ fn depth(d: Desk, records: &[u64], bids: &[u64], asks: &[u64], search: &[u64], r
         b"depth for 1 level, places ",
         rows::level_places(out) as u64,
     );
-    let deep = orderbook::depth(d.book, records, bids, asks, search, 1, out);
+    let deep = script::depth(d, out);
     tell_depth(deep, out);
 }
 
@@ -137,21 +129,6 @@ fn tell_room(room: usize) {
     }
 }
 
-// An order with so long a buffer for its fills.
-fn order(
-    d: Desk,
-    records: &mut [u64],
-    bids: &mut [u64],
-    asks: &mut [u64],
-    search: &mut [u64],
-    room: usize,
-    o: OrderType,
-) -> Desk {
-    let mut space = [0u64; ENOUGH];
-    let n = up_to(room);
-    script::order(d, records, bids, asks, search, &mut space[..n], o)
-}
-
 // What comes in.
 fn announce(list: u64, i: u64, room: usize, o: OrderType) {
     tell_room(room);
@@ -159,23 +136,22 @@ fn announce(list: u64, i: u64, room: usize, o: OrderType) {
     tell::order(o);
 }
 
+// An order with so long a buffer for its fills.
+fn order(d: Desk, room: usize, o: OrderType) -> Desk {
+    let mut space = [0u64; ENOUGH];
+    let n = up_to(room);
+    script::order(d, &mut space[..n], o)
+}
+
 // Row i of a list.
-fn row(
-    d: Desk,
-    records: &mut [u64],
-    bids: &mut [u64],
-    asks: &mut [u64],
-    search: &mut [u64],
-    list: u64,
-    i: u64,
-) -> Desk {
+fn row(d: Desk, list: u64, i: u64) -> Desk {
     let next = next_of(list, i);
     match next {
-        Next::Fresh(on) => script::tracked(script::fresh(records, bids, asks, search), on),
+        Next::Fresh(on) => script::tracked(script::fresh(), on),
         Next::Order(room, o) => {
             announce(list, i, room, o);
-            let after = order(d, records, bids, asks, search, room, o);
-            stand(after, records, bids, asks, search, list);
+            let after = order(d, room, o);
+            stand(after, list);
             after
         }
         Next::Tracking(on) => {
@@ -183,7 +159,7 @@ fn row(
             script::tracked(d, on)
         }
         Next::Depth(room) => {
-            depth(d, records, bids, asks, search, room);
+            depth(d, room);
             d
         }
         Next::End => d,
@@ -191,20 +167,11 @@ fn row(
 }
 
 // All rows of all lists, one after another.
-fn run(first: Desk, records: &mut [u64], bids: &mut [u64], asks: &mut [u64], search: &mut [u64]) {
-    let mut d = first;
+fn main() {
+    let mut d = script::fresh();
     let mut n = 0;
     while n < LISTS * LENGTH {
-        d = row(d, records, bids, asks, search, n / LENGTH, n % LENGTH);
+        d = row(d, n / LENGTH, n % LENGTH);
         n += 1;
     }
-}
-
-fn main() {
-    let mut records = [0u64; RECORDS];
-    let mut bids = [0u64; LEVELS];
-    let mut asks = [0u64; LEVELS];
-    let mut search = [0u64; PLACES];
-    let d = script::fresh(&mut records, &mut bids, &mut asks, &mut search);
-    run(d, &mut records, &mut bids, &mut asks, &mut search);
 }

@@ -4,16 +4,12 @@
 // Numbers that mean no order, an order cut off, or a read that fails end the run with a line on standard error: nothing is dropped unsaid. A program here has no exit status to give.
 mod input; // input.rt: an order out of standard input
 
-use calls::Quoted;
 use input::Reading;
 use input::next_step;
 use models::LastTrade;
 use models::Statistics;
 use models::Trade;
 use models::bits::bits_of;
-use orderbook::LEVELS;
-use orderbook::PLACES;
-use orderbook::RECORDS;
 use script::Desk;
 use script::Step;
 use tell::line;
@@ -40,32 +36,24 @@ fn tell_statistics(s: Statistics) {
     }
 }
 
-fn tell_figures(ask: Quoted, bid: Quoted, spread: Quoted, s: Statistics) {
+fn figures(d: Desk) {
+    let quotes = script::quoted(d);
+    let ask = quotes.ask;
+    let bid = quotes.bid;
+    let spread = quotes.spread;
     tell::quote(b"ask ", b"ask -", ask);
     tell::quote(b" bid ", b" bid -", bid);
     tell::quote(b" spread ", b" spread -", spread);
-    tell_statistics(s);
-}
-
-fn figures(d: Desk, records: &[u64], bids: &[u64], asks: &[u64], search: &[u64]) {
-    let ask = orderbook::min_ask(d.book, records, bids, asks, search);
-    let bid = orderbook::max_bid(d.book, records, bids, asks, search);
-    let spread = orderbook::spread(d.book, records, bids, asks, search);
-    tell_figures(ask, bid, spread, d.statistics);
+    tell_statistics(d.statistics);
 }
 
 // A step carried out and its answer told.
-fn carry_out(
-    d: Desk,
-    records: &mut [u64],
-    bids: &mut [u64],
-    asks: &mut [u64],
-    search: &mut [u64],
-    fills: &mut [u64],
-    step: Step,
-) -> Desk {
+fn carry_out(d: Desk, step: Step) -> Desk {
     match step {
-        Step::Order(o) => script::order(d, records, bids, asks, search, fills, o),
+        Step::Order(o) => {
+            let mut fills = [0u64; FILLS];
+            script::order(d, &mut fills, o)
+        }
         Step::Tracking(on) => {
             tell::tracking(on);
             script::tracked(d, on)
@@ -74,54 +62,16 @@ fn carry_out(
     }
 }
 
-// The same, and the figures after it.
-fn turn(
-    d: Desk,
-    records: &mut [u64],
-    bids: &mut [u64],
-    asks: &mut [u64],
-    search: &mut [u64],
-    fills: &mut [u64],
-    step: Step,
-) -> Desk {
-    let after = carry_out(d, records, bids, asks, search, fills, step);
-    figures(after, records, bids, asks, search);
-    after
-}
-
-// The orders, one after another, to the end of the input. Their number is counted, so that the run ends whatever comes in.
-fn run(
-    first: Desk,
-    records: &mut [u64],
-    bids: &mut [u64],
-    asks: &mut [u64],
-    search: &mut [u64],
-    fills: &mut [u64],
-) {
-    let mut d = first;
+// The orders, one after another, to the end of the input. They are counted, so that the run ends whatever comes in.
+fn main() {
+    let mut d = script::fresh();
     let mut n = 0;
     while n < u64::MAX {
         n += 1;
         let Reading::Came(step) = next_step(n) else {
             return;
         };
-        d = turn(d, records, bids, asks, search, fills, step);
+        d = carry_out(d, step);
+        figures(d);
     }
-}
-
-fn main() {
-    let mut records = [0u64; RECORDS];
-    let mut bids = [0u64; LEVELS];
-    let mut asks = [0u64; LEVELS];
-    let mut search = [0u64; PLACES];
-    let mut fills = [0u64; FILLS];
-    let d = script::fresh(&mut records, &mut bids, &mut asks, &mut search);
-    run(
-        d,
-        &mut records,
-        &mut bids,
-        &mut asks,
-        &mut search,
-        &mut fills,
-    );
 }

@@ -1,5 +1,7 @@
 // What the programs do in common: a desk's small values, a step as five numbers, and a step carried out with its answer told. Storage is lent beside the small values.
+use calls::Deep;
 use calls::Opening;
+use calls::Quoted;
 use ledger::OrderBook;
 use models::Id;
 use models::OrderType;
@@ -7,6 +9,9 @@ use models::Price;
 use models::Quantity;
 use models::Side;
 use models::Statistics;
+use orderbook::LEVELS;
+use orderbook::PLACES;
+use orderbook::RECORDS;
 
 // The kinds of a step, and its side.
 pub const MARKET: u64 = 0;
@@ -21,9 +26,43 @@ pub const BID: u64 = 0;
 
 pub const ASK: u64 = 1;
 
+// A desk: its small values and its storage.
 pub struct Desk {
     pub book: OrderBook,
     pub statistics: Statistics,
+    pub records: [u64; RECORDS],
+    pub bids: [u64; LEVELS],
+    pub asks: [u64; LEVELS],
+    pub search: [u64; PLACES],
+}
+
+pub struct Quotes {
+    pub ask: Quoted,
+    pub bid: Quoted,
+    pub spread: Quoted,
+}
+
+struct Small {
+    book: OrderBook,
+    statistics: Statistics,
+}
+
+fn small_of(opening: Opening) -> Small {
+    match opening {
+        Opening::Refused(n) => {
+            tell::line(b"Refused ", n);
+            Small {
+                book: OrderBook {
+                    resting: 0,
+                    free: 0,
+                    bids: 0,
+                    asks: 0,
+                },
+                statistics: Statistics::fresh(),
+            }
+        }
+        Opening::Made(book, statistics) => Small { book, statistics },
+    }
 }
 
 // An order or a cancel; tracking switched on or off; or numbers that mean neither.
@@ -63,47 +102,92 @@ pub fn step_of(kind: u64, side: u64, id: u64, qty: u64, price: u64) -> Step {
     order_of(kind, Id(id), which, Quantity(qty), Price(price))
 }
 
-// A desk with nothing on it; where storage has wrong lengths, one that isn't whole, after a line that says so.
-pub fn fresh(records: &mut [u64], bids: &mut [u64], asks: &mut [u64], search: &mut [u64]) -> Desk {
-    match orderbook::fresh(records, bids, asks, search) {
-        Opening::Refused(n) => {
-            tell::line(b"Refused ", n);
-            Desk {
-                book: OrderBook {
-                    resting: 0,
-                    free: 0,
-                    bids: 0,
-                    asks: 0,
-                },
-                statistics: Statistics::fresh(),
-            }
-        }
-        Opening::Made(book, statistics) => Desk { book, statistics },
+// A desk with nothing on it.
+pub fn fresh() -> Desk {
+    let mut records = [0u64; RECORDS];
+    let mut bids = [0u64; LEVELS];
+    let mut asks = [0u64; LEVELS];
+    let mut search = [0u64; PLACES];
+    let opening = orderbook::fresh(&mut records, &mut bids, &mut asks, &mut search);
+    let small = small_of(opening);
+    let book = small.book;
+    let statistics = small.statistics;
+    Desk {
+        book,
+        statistics,
+        records,
+        bids,
+        asks,
+        search,
     }
 }
 
-// An order or a cancel carried out, and the answer told.
-pub fn order(
-    d: Desk,
-    records: &mut [u64],
-    bids: &mut [u64],
-    asks: &mut [u64],
-    search: &mut [u64],
-    fills: &mut [u64],
-    o: OrderType,
-) -> Desk {
-    let done = orderbook::execute(d.book, d.statistics, records, bids, asks, search, fills, o);
+// An order or a cancel carried out, and the answer told with its fills.
+pub fn order(d: Desk, fills: &mut [u64], o: OrderType) -> Desk {
+    let mut records = d.records;
+    let mut bids = d.bids;
+    let mut asks = d.asks;
+    let mut search = d.search;
+    let done = orderbook::execute(
+        d.book,
+        d.statistics,
+        &mut records,
+        &mut bids,
+        &mut asks,
+        &mut search,
+        fills,
+        o,
+    );
     let answer = done.answer;
     tell::answer(answer, fills);
     let book = done.book;
     let statistics = done.statistics;
-    Desk { book, statistics }
+    Desk {
+        book,
+        statistics,
+        records,
+        bids,
+        asks,
+        search,
+    }
+}
+
+fn quotes_of(
+    book: OrderBook,
+    records: &[u64],
+    bids: &[u64],
+    asks: &[u64],
+    search: &[u64],
+) -> Quotes {
+    let ask = orderbook::min_ask(book, records, bids, asks, search);
+    let bid = orderbook::max_bid(book, records, bids, asks, search);
+    let spread = orderbook::spread(book, records, bids, asks, search);
+    Quotes { ask, bid, spread }
+}
+
+// The lowest ask, the highest bid and the spread.
+pub fn quoted(d: Desk) -> Quotes {
+    let records = d.records;
+    let bids = d.bids;
+    let asks = d.asks;
+    let search = d.search;
+    quotes_of(d.book, &records, &bids, &asks, &search)
+}
+
+// Depth for one level into the room lent.
+pub fn depth(d: Desk, out: &mut [u64]) -> Deep {
+    let records = d.records;
+    let bids = d.bids;
+    let asks = d.asks;
+    let search = d.search;
+    orderbook::depth(d.book, &records, &bids, &asks, &search, 1, out)
 }
 
 // Tracking switched: no other number changes.
 pub fn tracked(d: Desk, on: bool) -> Desk {
-    let book = d.book;
     let before = d.statistics;
+    let mut after = d;
     let statistics = before.track_stats(on);
-    Desk { book, statistics }
+    after.statistics = statistics;
+    after
 }
