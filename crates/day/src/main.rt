@@ -21,6 +21,7 @@ use models::Statistics;
 use models::Trade;
 use models::rows;
 use script::Desk;
+use script::Quotes;
 use tell::line;
 use tell::number;
 use tell::put;
@@ -39,22 +40,25 @@ fn tell_statistics(s: Statistics) {
     }
 }
 
-// Where the book and the statistics stand after an order; D1 and D2 look at depth instead.
-fn stand(d: Desk, list: u64) {
-    if list == 1 || list == 2 {
-        return;
-    }
-    let quotes = script::quoted(d);
+fn tell_quotes(quotes: Quotes) {
     let ask = quotes.ask;
     let bid = quotes.bid;
     let spread = quotes.spread;
     tell::quote(b"ask ", b"no ask", ask);
-    put(b", ");
-    tell::quote(b"bid ", b"no bid", bid);
-    put(b", ");
-    tell::quote(b"spread ", b"no spread", spread);
+    tell::quote(b", bid ", b", no bid", bid);
+    tell::quote(b", spread ", b", no spread", spread);
     put(b"; ");
-    tell_statistics(d.statistics);
+}
+
+// Where the book and the statistics stand after an order; D1 and D2 look at depth instead.
+fn stand(d: Desk, list: u64) {
+    match list {
+        1 | 2 => {}
+        _ => {
+            tell_quotes(script::quoted(d));
+            tell_statistics(d.statistics);
+        }
+    }
 }
 
 // A level, if place i has one: asks first, then bids.
@@ -110,15 +114,15 @@ fn depth(d: Desk, room: usize) {
 
 // The order's place in document 01: T and the row, or D and the list.
 fn label(list: u64, i: u64) {
-    if list == TRADING_DAY {
-        number(b"T", i);
-    } else {
-        number(b"D", list);
+    match list {
+        TRADING_DAY => number(b"T", i),
+        _ => number(b"D", list),
     }
-    if list != TRADING_DAY || i < 10 {
+    if list == TRADING_DAY && i > 9 {
         put(b" ");
+    } else {
+        put(b"  ");
     }
-    put(b" ");
 }
 
 fn tell_room(room: usize) {
