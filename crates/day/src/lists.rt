@@ -1,9 +1,10 @@
 // The trading day and D1 to D4 as lists, row by row; each starts with a fresh book.
-use models::Id;
 use models::OrderType;
-use models::Price;
-use models::Quantity;
-use models::Side;
+use script::ask;
+use script::bid;
+use script::buy;
+use script::cancel;
+use script::sell;
 
 // D3: the highest price at which 2 can be recorded, 2^63 - 1, and the next.
 const LAST: u64 = 9223372036854775807;
@@ -18,7 +19,7 @@ pub const LISTS: u64 = 5;
 pub const LENGTH: u64 = 13;
 
 // Buffers in numbers: a fill is five, a level two.
-pub const ENOUGH: usize = 50;
+const ENOUGH: usize = 50;
 
 pub const ONE_FILL: usize = 5;
 
@@ -37,65 +38,27 @@ pub enum Next {
     End,
 }
 
-fn limit(side: Side, id: u64, qty: u64, price: u64) -> Next {
-    Next::Order(
-        ENOUGH,
-        OrderType::Limit {
-            id: Id(id),
-            side,
-            qty: Quantity(qty),
-            price: Price(price),
-        },
-    )
-}
-
-fn bid(id: u64, qty: u64, price: u64) -> Next {
-    limit(Side::Bid, id, qty, price)
-}
-
-fn ask(id: u64, qty: u64, price: u64) -> Next {
-    limit(Side::Ask, id, qty, price)
-}
-
-fn market(room: usize, side: Side, id: u64, qty: u64) -> Next {
-    Next::Order(
-        room,
-        OrderType::Market {
-            id: Id(id),
-            side,
-            qty: Quantity(qty),
-        },
-    )
-}
-
-fn buy(id: u64, qty: u64) -> Next {
-    market(ENOUGH, Side::Bid, id, qty)
-}
-
-fn sell(id: u64, qty: u64) -> Next {
-    market(ENOUGH, Side::Ask, id, qty)
-}
-
-fn cancel(id: u64) -> Next {
-    Next::Order(ENOUGH, OrderType::Cancel { id: Id(id) })
+// An order with room for its fills.
+fn on(o: OrderType) -> Next {
+    Next::Order(ENOUGH, o)
 }
 
 // T1 to T12.
 fn trading_day(i: u64) -> Next {
     match i {
         0 => Next::Fresh(true),
-        1 => ask(1, 10, 105),
-        2 => ask(2, 5, 103),
-        3 => ask(3, 7, 103),
-        4 => bid(4, 8, 104),
-        5 => bid(5, 6, 103),
-        6 => buy(6, 12),
-        7 => buy(7, 1),
-        8 => cancel(1),
-        9 => ask(8, 0, 1),
-        10 => sell(10, 0),
-        11 => ask(9, 1, 103),
-        12 => cancel(5),
+        1 => on(ask(1, 10, 105)),
+        2 => on(ask(2, 5, 103)),
+        3 => on(ask(3, 7, 103)),
+        4 => on(bid(4, 8, 104)),
+        5 => on(bid(5, 6, 103)),
+        6 => on(buy(6, 12)),
+        7 => on(buy(7, 1)),
+        8 => on(cancel(1)),
+        9 => on(ask(8, 0, 1)),
+        10 => on(sell(10, 0)),
+        11 => on(ask(9, 1, 103)),
+        12 => on(cancel(5)),
         _ => Next::End,
     }
 }
@@ -104,14 +67,14 @@ fn trading_day(i: u64) -> Next {
 fn d1(i: u64) -> Next {
     match i {
         0 => Next::Fresh(false),
-        1 => bid(7, 3, 50),
-        2 => bid(7, 4, 49),
+        1 => on(bid(7, 3, 50)),
+        2 => on(bid(7, 4, 49)),
         3 => Next::Depth(THREE_LEVELS),
-        4 => cancel(7),
+        4 => on(cancel(7)),
         5 => Next::Depth(THREE_LEVELS),
-        6 => cancel(7),
+        6 => on(cancel(7)),
         7 => Next::Depth(THREE_LEVELS),
-        8 => sell(8, 3),
+        8 => on(sell(8, 3)),
         9 => Next::Depth(THREE_LEVELS),
         _ => Next::End,
     }
@@ -121,10 +84,10 @@ fn d1(i: u64) -> Next {
 fn d2(i: u64) -> Next {
     match i {
         0 => Next::Fresh(false),
-        1 => bid(1, 5, 10),
-        2 => bid(2, 2, 11),
-        3 => bid(3, 3, 10),
-        4 => ask(4, 1, 20),
+        1 => on(bid(1, 5, 10)),
+        2 => on(bid(2, 2, 11)),
+        3 => on(bid(3, 3, 10)),
+        4 => on(ask(4, 1, 20)),
         5 => Next::Depth(THREE_LEVELS),
         6 => Next::Depth(TWO_LEVELS),
         _ => Next::End,
@@ -135,13 +98,13 @@ fn d2(i: u64) -> Next {
 fn d3(i: u64) -> Next {
     match i {
         0 => Next::Fresh(true),
-        1 => ask(1, 2, LAST),
-        2 => buy(2, 2),
+        1 => on(ask(1, 2, LAST)),
+        2 => on(buy(2, 2)),
         3 => Next::Fresh(true),
-        4 => ask(1, 2, OVER),
-        5 => buy(2, 2),
+        4 => on(ask(1, 2, OVER)),
+        5 => on(buy(2, 2)),
         6 => Next::Tracking(false),
-        7 => buy(2, 2),
+        7 => on(buy(2, 2)),
         _ => Next::End,
     }
 }
@@ -150,10 +113,10 @@ fn d3(i: u64) -> Next {
 fn d4(i: u64) -> Next {
     match i {
         0 => Next::Fresh(true),
-        1 => ask(1, 2, 100),
-        2 => ask(2, 1, 101),
-        3 => market(ONE_FILL, Side::Bid, 3, 3),
-        4 => market(TWO_FILLS, Side::Bid, 3, 3),
+        1 => on(ask(1, 2, 100)),
+        2 => on(ask(2, 1, 101)),
+        3 => Next::Order(ONE_FILL, buy(3, 3)),
+        4 => Next::Order(TWO_FILLS, buy(3, 3)),
         _ => Next::End,
     }
 }

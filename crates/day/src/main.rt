@@ -1,11 +1,8 @@
 // Document 01's trading day on the desk: T1 to T12 on one book with tracking on, then D1 to D4, each on a fresh book.
 // A line says what came in; then comes the answer, a line a fill, and where the book and the statistics stand.
-ghost use Prim.Native.Nat.{_≤_};
-
 mod lists; // lists.rt: what is done, in order
 
 use calls::Deep;
-use lists::ENOUGH;
 use lists::LENGTH;
 use lists::LISTS;
 use lists::Next;
@@ -92,24 +89,13 @@ fn tell_depth(deep: Deep, out: &[u64]) {
     }
 }
 
-// As long a buffer as asked for, up to the space there is.
-fn up_to(n: usize) -> usize
-    ensures { λ r. ⌜ r ≤ 50 ⌝ }
-{
-    if n < ENOUGH { n } else { ENOUGH }
-}
-
 // Depth for one level, with so long a buffer.
 fn depth(d: Desk, room: usize) {
-    let mut space = [0u64; ENOUGH];
-    let n = up_to(room);
-    let out = &mut space[..n];
-    line(
-        b"depth for 1 level, places ",
-        rows::level_places(out) as u64,
-    );
-    let deep = script::depth(d, out);
-    tell_depth(deep, out);
+    let shown = script::depth(d, room);
+    let deep = shown.deep;
+    let levels = shown.levels;
+    line(b"depth for 1 level, places ", room as u64 / 2);
+    tell_depth(deep, &levels);
 }
 
 // The order's place in document 01: T and the row, or D and the list.
@@ -140,13 +126,6 @@ fn announce(list: u64, i: u64, room: usize, o: OrderType) {
     tell::order(o);
 }
 
-// An order with so long a buffer for its fills.
-fn order(d: Desk, room: usize, o: OrderType) -> Desk {
-    let mut space = [0u64; ENOUGH];
-    let n = up_to(room);
-    script::order(d, &mut space[..n], o)
-}
-
 // Row i of a list.
 fn row(d: Desk, list: u64, i: u64) -> Desk {
     let next = next_of(list, i);
@@ -154,7 +133,7 @@ fn row(d: Desk, list: u64, i: u64) -> Desk {
         Next::Fresh(on) => script::tracked(script::fresh(), on),
         Next::Order(room, o) => {
             announce(list, i, room, o);
-            let after = order(d, room, o);
+            let after = script::order(d, room, o);
             stand(after, list);
             after
         }

@@ -11,13 +11,11 @@ use models::Statistics;
 use models::Trade;
 use models::bits::bits_of;
 use script::Desk;
+use script::FILLS;
 use script::Step;
 use tell::line;
 use tell::number;
 use tell::put;
-
-// Room for the most fills that an order can have: one from each resting order, five numbers each.
-const FILLS: usize = 5120;
 
 fn tell_trade(t: Trade) {
     number(b"", t.total_qty.0);
@@ -50,10 +48,7 @@ fn figures(d: Desk) {
 // A step carried out and its answer told.
 fn carry_out(d: Desk, step: Step) -> Desk {
     match step {
-        Step::Order(o) => {
-            let mut fills = [0u64; FILLS];
-            script::order(d, &mut fills, o)
-        }
+        Step::Order(o) => script::order(d, FILLS, o),
         Step::Tracking(on) => {
             tell::tracking(on);
             script::tracked(d, on)

@@ -1,7 +1,9 @@
 // What the programs do in common: a desk's small values, a step as five numbers, and a step carried out with its answer told. Storage is lent beside the small values.
+ghost use Prim.Native.Nat.{_≤_};
 use calls::Deep;
 use calls::Opening;
 use calls::Quoted;
+use desk::Answer;
 use ledger::OrderBook;
 use models::Id;
 use models::OrderType;
@@ -26,6 +28,14 @@ pub const BID: u64 = 0;
 
 pub const ASK: u64 = 1;
 
+// Buffers: room for a fill from each order that can rest, five numbers each, and for a level at each price of both sides, two numbers each.
+pub const FILLS: usize = 5120;
+
+pub const SHOWN: usize = 512;
+
+// What stands in a buffer before a call.
+pub const MARK: u64 = 7;
+
 // A desk: its small values and its storage.
 pub struct Desk {
     pub book: OrderBook,
@@ -40,6 +50,19 @@ pub struct Quotes {
     pub ask: Quoted,
     pub bid: Quoted,
     pub spread: Quoted,
+}
+
+// What an order came to: the answer, the desk after it, and the whole buffer of which a part was lent for fills.
+pub struct Done {
+    pub answer: Answer,
+    pub desk: Desk,
+    pub fills: [u64; FILLS],
+}
+
+// What depth came to, and the whole buffer of which a part was lent for levels.
+pub struct Shown {
+    pub deep: Deep,
+    pub levels: [u64; SHOWN],
 }
 
 struct Small {
@@ -70,6 +93,45 @@ pub enum Step {
     Order(OrderType),
     Tracking(bool),
     Unknown,
+}
+
+pub fn bid(id: u64, qty: u64, price: u64) -> OrderType {
+    OrderType::Limit {
+        id: Id(id),
+        side: Side::Bid,
+        qty: Quantity(qty),
+        price: Price(price),
+    }
+}
+
+pub fn ask(id: u64, qty: u64, price: u64) -> OrderType {
+    OrderType::Limit {
+        id: Id(id),
+        side: Side::Ask,
+        qty: Quantity(qty),
+        price: Price(price),
+    }
+}
+
+// Market orders: a bid, and an ask.
+pub fn buy(id: u64, qty: u64) -> OrderType {
+    OrderType::Market {
+        id: Id(id),
+        side: Side::Bid,
+        qty: Quantity(qty),
+    }
+}
+
+pub fn sell(id: u64, qty: u64) -> OrderType {
+    OrderType::Market {
+        id: Id(id),
+        side: Side::Ask,
+        qty: Quantity(qty),
+    }
+}
+
+pub fn cancel(id: u64) -> OrderType {
+    OrderType::Cancel { id: Id(id) }
 }
 
 fn order_of(kind: u64, id: Id, side: Side, qty: Quantity, price: Price) -> Step {
@@ -122,12 +184,20 @@ pub fn fresh() -> Desk {
     }
 }
 
-// An order or a cancel carried out, and the answer told with its fills.
-pub fn order(d: Desk, fills: &mut [u64], o: OrderType) -> Desk {
+fn least(a: usize, b: usize) -> usize
+    ensures { λ r. ⌜ r ≤ b ⌝ }
+{
+    if a < b { a } else { b }
+}
+
+// An order or a cancel, with a buffer of `room` numbers for its fills.
+pub fn execute(d: Desk, room: usize, o: OrderType) -> Done {
     let mut records = d.records;
     let mut bids = d.bids;
     let mut asks = d.asks;
     let mut search = d.search;
+    let mut fills = [MARK; FILLS];
+    let n = least(room, FILLS);
     let done = orderbook::execute(
         d.book,
         d.statistics,
@@ -135,21 +205,34 @@ pub fn order(d: Desk, fills: &mut [u64], o: OrderType) -> Desk {
         &mut bids,
         &mut asks,
         &mut search,
-        fills,
+        &mut fills[..n],
         o,
     );
     let answer = done.answer;
-    tell::answer(answer, fills);
     let book = done.book;
     let statistics = done.statistics;
-    Desk {
+    let desk = Desk {
         book,
         statistics,
         records,
         bids,
         asks,
         search,
+    };
+    Done {
+        answer,
+        desk,
+        fills,
     }
+}
+
+// The same, and the answer told with its fills.
+pub fn order(d: Desk, room: usize, o: OrderType) -> Desk {
+    let done = execute(d, room, o);
+    let answer = done.answer;
+    let fills = done.fills;
+    tell::answer(answer, &fills);
+    done.desk
 }
 
 fn quotes_of(
@@ -174,13 +257,16 @@ pub fn quoted(d: Desk) -> Quotes {
     quotes_of(d.book, &records, &bids, &asks, &search)
 }
 
-// Depth for one level into the room lent.
-pub fn depth(d: Desk, out: &mut [u64]) -> Deep {
+// Depth for one level, with a buffer of `room` numbers.
+pub fn depth(d: Desk, room: usize) -> Shown {
     let records = d.records;
     let bids = d.bids;
     let asks = d.asks;
     let search = d.search;
-    orderbook::depth(d.book, &records, &bids, &asks, &search, 1, out)
+    let mut levels = [MARK; SHOWN];
+    let n = least(room, SHOWN);
+    let deep = orderbook::depth(d.book, &records, &bids, &asks, &search, 1, &mut levels[..n]);
+    Shown { deep, levels }
 }
 
 // Tracking switched: no other number changes.

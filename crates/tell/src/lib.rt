@@ -149,7 +149,7 @@ pub fn answer(a: Answer, rows: &[u64]) {
 // A quote or the spread: `name` and the number, or the words for its absence, or a refusal.
 pub fn quote(name: &[u8], absent: &[u8], q: Quoted) {
     match q {
-        Quoted::Refused(n) => number(b"Refused ", n),
+        Quoted::Refused(n) => number(b" Refused ", n),
         Quoted::Told(told) => match told {
             Quote::Absent => put(absent),
             Quote::Present(price) => number(name, price.0),
