@@ -36,14 +36,14 @@ pub const SHOWN: usize = 512;
 // What stands in a buffer before a call.
 pub const MARK: u64 = 7;
 
-// A desk: its small values and its storage.
+// A desk: its storage and its small values.
 pub struct Desk {
-    pub book: OrderBook,
-    pub statistics: Statistics,
     pub records: [u64; RECORDS],
     pub bids: [u64; LEVELS],
     pub asks: [u64; LEVELS],
     pub search: [u64; PLACES],
+    pub book: OrderBook,
+    pub statistics: Statistics,
 }
 
 pub struct Quotes {
@@ -175,16 +175,17 @@ pub fn fresh() -> Desk {
     let book = small.book;
     let statistics = small.statistics;
     Desk {
-        book,
-        statistics,
         records,
         bids,
         asks,
         search,
+        book,
+        statistics,
     }
 }
 
-fn least(a: usize, b: usize) -> usize
+// The smaller of two lengths.
+pub fn least(a: usize, b: usize) -> usize
     ensures { λ r. ⌜ r ≤ b ⌝ }
 {
     if a < b { a } else { b }
@@ -212,12 +213,12 @@ pub fn execute(d: Desk, room: usize, o: OrderType) -> Done {
     let book = done.book;
     let statistics = done.statistics;
     let desk = Desk {
-        book,
-        statistics,
         records,
         bids,
         asks,
         search,
+        book,
+        statistics,
     };
     Done {
         answer,

@@ -146,7 +146,7 @@ pub fn answer(a: Answer, rows: &[u64]) {
     }
 }
 
-// A quote or the spread: `name` and the number, or the words for its absence, or a refusal.
+// A quote or the spread: its name and number, or the words for its absence; or a refusal.
 pub fn quote(name: &[u8], absent: &[u8], q: Quoted) {
     match q {
         Quoted::Refused(n) => number(b" Refused ", n),

@@ -1,9 +1,9 @@
--- `limits::same` is safe and ends: numbers are compared only where both slices have the place. Assumes nothing.
+-- `kept::same` is safe and ends: numbers are compared only where both lists have them. Assumes nothing.
 use Prim.Native.Nat.{_-_}
 use native.Mathlib.Omega.{arith}
 use borrow.Author.Needs.{needs}
-use Rattle.limits.proofs.same.Statement.{statement}
-use Rattle.limits.proofs.same.Tie as tie
+use Rattle.kept.proofs.same.Statement.{statement}
+use Rattle.kept.proofs.same.Tie as tie
 
 abbrev Inv-loop : tie.InvT-loop
 Inv-loop a b n i₀ agree₀ i agree = Unit {0}
@@ -11,32 +11,35 @@ Inv-loop a b n i₀ agree₀ i agree = Unit {0}
 abbrev μ-loop : tie.MeasureT-loop
 μ-loop a b n i₀ agree₀ i agree = n - i
 
+returns : tie.Need-returns Inv-loop μ-loop
+returns c = tt
+
 loop-holds : tie.Need-loop-holds Inv-loop μ-loop
 loop-holds c = tt
 
 mul-if2 : tie.Need-mul-if2 Inv-loop μ-loop
-mul-if2 c = search needs
+mul-if2 c = omega arith
 
 shared-slice-read-if2 : tie.Need-shared-slice-read-if2 Inv-loop μ-loop
 shared-slice-read-if2 c = omega arith
 
 mul-if2-2 : tie.Need-mul-if2-2 Inv-loop μ-loop
-mul-if2-2 c = search needs
+mul-if2-2 c = omega arith
 
 shared-slice-read-if2-2 : tie.Need-shared-slice-read-if2-2 Inv-loop μ-loop
 shared-slice-read-if2-2 c = omega arith
 
 add-i : tie.Need-add-i Inv-loop μ-loop
-add-i c = search needs
+add-i c = omega arith
 
 loop-less : tie.Need-loop-less Inv-loop μ-loop
-loop-less c = search needs
+loop-less c = omega arith
 
 loop-again : tie.Need-loop-again Inv-loop μ-loop
 loop-again c = tt
 
-returns : tie.Need-returns Inv-loop μ-loop
-returns c = tt
+returns-2 : tie.Need-returns-2 Inv-loop μ-loop
+returns-2 c = tt
 
 pub same-spec : {M : Type 1} → statement M
 same-spec =
@@ -44,6 +47,7 @@ same-spec =
     (tie.spec
     Inv-loop
     μ-loop
+    returns
     loop-holds
     mul-if2
     shared-slice-read-if2
@@ -52,4 +56,4 @@ same-spec =
     add-i
     loop-less
     loop-again
-    returns)
+    returns-2)
