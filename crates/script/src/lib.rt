@@ -65,29 +65,6 @@ pub struct Shown {
     pub levels: [u64; SHOWN],
 }
 
-struct Small {
-    book: OrderBook,
-    statistics: Statistics,
-}
-
-fn small_of(opening: Opening) -> Small {
-    match opening {
-        Opening::Refused(n) => {
-            tell::line(b"Refused ", n);
-            Small {
-                book: OrderBook {
-                    resting: 0,
-                    free: 0,
-                    bids: 0,
-                    asks: 0,
-                },
-                statistics: Statistics::fresh(),
-            }
-        }
-        Opening::Made(book, statistics) => Small { book, statistics },
-    }
-}
-
 // An order or a cancel; tracking switched on or off; or numbers that mean neither.
 pub enum Step {
     Order(OrderType),
@@ -162,6 +139,30 @@ pub fn step_of(kind: u64, side: u64, id: u64, qty: u64, price: u64) -> Step {
     }
     let which = if side == BID { Side::Bid } else { Side::Ask };
     order_of(kind, Id(id), which, Quantity(qty), Price(price))
+}
+
+// A fresh book's small values. Storage of the right lengths is never refused; otherwise a line says so, and the book is one that isn't whole.
+struct Small {
+    book: OrderBook,
+    statistics: Statistics,
+}
+
+fn small_of(opening: Opening) -> Small {
+    match opening {
+        Opening::Refused(n) => {
+            tell::line(b"Refused ", n);
+            Small {
+                book: OrderBook {
+                    resting: 0,
+                    free: 0,
+                    bids: 0,
+                    asks: 0,
+                },
+                statistics: Statistics::fresh(),
+            }
+        }
+        Opening::Made(book, statistics) => Small { book, statistics },
+    }
 }
 
 // A desk with nothing on it.
