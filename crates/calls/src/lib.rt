@@ -3,7 +3,6 @@
 ghost use mathlib.Core.Path.{_≡_};
 ghost use mathlib.Core.List.{[]};
 ghost use Rattle.rules.specs.Rules as rule;
-ghost use Rattle.models.specs.declared.OrderType.the-variants.{Market, Limit};
 ghost use Rattle.models.specs.Readings.{callOf};
 ghost use Rattle.models.specs.Rows.{fillRow, places};
 ghost use Rattle.whole.specs.Whole.{sizeOf};
@@ -24,8 +23,6 @@ use models::Id;
 use models::OrderEvent;
 use models::OrderType;
 use models::Price;
-use models::Quantity;
-use models::Side;
 use models::Statistics;
 use models::rows::level_places;
 use survey::Taker;
@@ -185,76 +182,6 @@ pub fn execute(
             }
         }
     }
-}
-
-// A market order.
-pub fn market(
-    size: Size,
-    book: OrderBook,
-    statistics: Statistics,
-    records: &mut [u64],
-    bids: &mut [u64],
-    asks: &mut [u64],
-    search: &mut [u64],
-    fills: &mut [u64],
-    id: Id,
-    side: Side,
-    qty: Quantity,
-) -> Executed
-    ensures { λ r. ⌜ Executes (sizeOf size) (callOf (places fillRow (now (fills .entry))) (Market id side qty))
-        (record { book = book; records = now (records .entry); bids = now (bids .entry); asks = now (asks .entry); search = now (search .entry) }) statistics (now (fills .entry)) (r .answer)
-        (record { book = r .book; records = now (records .exit); bids = now (bids .exit); asks = now (asks .exit); search = now (search .exit) }) (r .statistics) (now (fills .exit)) ⌝ }
-{
-    let order = OrderType::Market { id, side, qty };
-    execute(
-        size,
-        book,
-        statistics,
-        records,
-        bids,
-        asks,
-        search,
-        fills,
-        order,
-    )
-}
-
-// A limit order.
-pub fn limit(
-    size: Size,
-    book: OrderBook,
-    statistics: Statistics,
-    records: &mut [u64],
-    bids: &mut [u64],
-    asks: &mut [u64],
-    search: &mut [u64],
-    fills: &mut [u64],
-    id: Id,
-    side: Side,
-    qty: Quantity,
-    price: Price,
-) -> Executed
-    ensures { λ r. ⌜ Executes (sizeOf size) (callOf (places fillRow (now (fills .entry))) (Limit id side qty price))
-        (record { book = book; records = now (records .entry); bids = now (bids .entry); asks = now (asks .entry); search = now (search .entry) }) statistics (now (fills .entry)) (r .answer)
-        (record { book = r .book; records = now (records .exit); bids = now (bids .exit); asks = now (asks .exit); search = now (search .exit) }) (r .statistics) (now (fills .exit)) ⌝ }
-{
-    let order = OrderType::Limit {
-        id,
-        side,
-        qty,
-        price,
-    };
-    execute(
-        size,
-        book,
-        statistics,
-        records,
-        bids,
-        asks,
-        search,
-        fills,
-        order,
-    )
 }
 
 // The lowest ask.

@@ -1,5 +1,5 @@
 // The desk of the base: lobster's order book over storage for 1,024 resting orders and 128 prices a side, as public calls that demand nothing of the caller.
-// Each is the call of the same name in `calls`, at this one size. Storage is lent: RECORDS numbers for the orders, LEVELS for the prices of each side, PLACES for the search.
+// Each is the call of the same name in `calls`, at this one size; a market and a limit order are `execute` of it. Storage is lent: RECORDS numbers for the orders, LEVELS for the prices of each side, PLACES for the search.
 ghost use mathlib.Core.List.{[]};
 ghost use Rattle.rules.specs.Rules as rule;
 ghost use Rattle.models.specs.declared.OrderType.the-variants.{Market, Limit};
@@ -97,22 +97,8 @@ pub fn market(
         (record { book = book; records = now (records .entry); bids = now (bids .entry); asks = now (asks .entry); search = now (search .entry) }) statistics (now (fills .entry)) (r .answer)
         (record { book = r .book; records = now (records .exit); bids = now (bids .exit); asks = now (asks .exit); search = now (search .exit) }) (r .statistics) (now (fills .exit)) ⌝ }
 {
-    calls::market(
-        Size {
-            orders: ORDERS,
-            prices: PRICES,
-        },
-        book,
-        statistics,
-        records,
-        bids,
-        asks,
-        search,
-        fills,
-        id,
-        side,
-        qty,
-    )
+    let order = OrderType::Market { id, side, qty };
+    execute(book, statistics, records, bids, asks, search, fills, order)
 }
 
 // A limit order.
@@ -133,23 +119,13 @@ pub fn limit(
         (record { book = book; records = now (records .entry); bids = now (bids .entry); asks = now (asks .entry); search = now (search .entry) }) statistics (now (fills .entry)) (r .answer)
         (record { book = r .book; records = now (records .exit); bids = now (bids .exit); asks = now (asks .exit); search = now (search .exit) }) (r .statistics) (now (fills .exit)) ⌝ }
 {
-    calls::limit(
-        Size {
-            orders: ORDERS,
-            prices: PRICES,
-        },
-        book,
-        statistics,
-        records,
-        bids,
-        asks,
-        search,
-        fills,
+    let order = OrderType::Limit {
         id,
         side,
         qty,
         price,
-    )
+    };
+    execute(book, statistics, records, bids, asks, search, fills, order)
 }
 
 // The order found under the id leaves, if there is one.
