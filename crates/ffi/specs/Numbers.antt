@@ -1,7 +1,7 @@
 -- How the small values and the answers stand in numbers: the twelve numbers of a desk, and the four of an answer. Assumes nothing.
 use Prim.Native.Nat.{ℕ}
 use mathlib.Core.Bool.{Bool, false, true, not, cond}
-use mathlib.Core.List.{List, [], _∷_, _++_}
+use mathlib.Core.List.{List, [], _∷_}
 use lib.Dec.{eqb}
 use lib.ListN.{getD}
 use lib.Ieee.{binary64, toBits, ofBits}
@@ -15,7 +15,6 @@ use Rattle.models.specs.declared.Trade.{Trade}
 use Rattle.ledger.specs.declared.OrderBook.{OrderBook}
 use Rattle.depth.specs.declared.Found.{Found}
 use Rattle.depth.specs.declared.Found.the-variants.{At, Nothing}
-use Rattle.depth.specs.declared.Lookup.{Lookup}
 use Rattle.depth.specs.declared.Quote.{Quote}
 use Rattle.depth.specs.declared.Quote.the-variants as quote
 

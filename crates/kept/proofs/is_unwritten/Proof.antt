@@ -1,7 +1,6 @@
 -- `kept::is_unwritten` is safe and ends: a number that is read lies within the buffer. Assumes nothing.
 use Prim.Native.Nat.{_-_}
 use native.Mathlib.Omega.{arith}
-use borrow.Author.Needs.{needs}
 use Rattle.kept.proofs.is_unwritten.Statement.{statement}
 use Rattle.kept.proofs.is_unwritten.Tie as tie
 

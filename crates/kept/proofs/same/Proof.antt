@@ -1,7 +1,6 @@
 -- `kept::same` is safe and ends: numbers are compared only where both lists have them. Assumes nothing.
 use Prim.Native.Nat.{_-_}
 use native.Mathlib.Omega.{arith}
-use borrow.Author.Needs.{needs}
 use Rattle.kept.proofs.same.Statement.{statement}
 use Rattle.kept.proofs.same.Tie as tie
 

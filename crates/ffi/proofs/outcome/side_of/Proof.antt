@@ -1,6 +1,5 @@
 -- `ffi::outcome::side_of` meets its contract: each case of the answer is the definition's case. Assumes nothing.
 use borrow.Author.Tests.{eq-eqb, ne-eqb}
-use borrow.Author.Needs.{needs}
 use Rattle.ffi.proofs.outcome.side_of.Statement.{statement}
 use Rattle.ffi.proofs.outcome.side_of.Tie as tie
 
