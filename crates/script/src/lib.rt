@@ -1,5 +1,8 @@
-// What the programs do in common: a desk's small values, a step as five numbers, and a step carried out with its answer told. Storage is lent beside the small values.
+// What the programs do in common: a desk with its storage as one value, a step as five numbers, and a step carried out with its answer told.
+ghost use mathlib.Core.Path.{_≡_};
 ghost use Prim.Native.Nat.{_≤_};
+ghost use Rattle.models.specs.declared.OrderType.the-variants.{Market, Limit, Cancel};
+ghost use Rattle.models.specs.declared.Side.the-variants.{Bid, Ask};
 use calls::Deep;
 use calls::Opening;
 use calls::Quoted;
@@ -72,7 +75,9 @@ pub enum Step {
     Unknown,
 }
 
-pub fn bid(id: u64, qty: u64, price: u64) -> OrderType {
+pub fn bid(id: u64, qty: u64, price: u64) -> OrderType
+    ensures { λ r. ⌜ r ≡ Limit (record { 0 = id }) Bid (record { 0 = qty }) (record { 0 = price }) ⌝ }
+{
     OrderType::Limit {
         id: Id(id),
         side: Side::Bid,
@@ -81,7 +86,9 @@ pub fn bid(id: u64, qty: u64, price: u64) -> OrderType {
     }
 }
 
-pub fn ask(id: u64, qty: u64, price: u64) -> OrderType {
+pub fn ask(id: u64, qty: u64, price: u64) -> OrderType
+    ensures { λ r. ⌜ r ≡ Limit (record { 0 = id }) Ask (record { 0 = qty }) (record { 0 = price }) ⌝ }
+{
     OrderType::Limit {
         id: Id(id),
         side: Side::Ask,
@@ -91,7 +98,9 @@ pub fn ask(id: u64, qty: u64, price: u64) -> OrderType {
 }
 
 // Market orders: a bid, and an ask.
-pub fn buy(id: u64, qty: u64) -> OrderType {
+pub fn buy(id: u64, qty: u64) -> OrderType
+    ensures { λ r. ⌜ r ≡ Market (record { 0 = id }) Bid (record { 0 = qty }) ⌝ }
+{
     OrderType::Market {
         id: Id(id),
         side: Side::Bid,
@@ -99,7 +108,9 @@ pub fn buy(id: u64, qty: u64) -> OrderType {
     }
 }
 
-pub fn sell(id: u64, qty: u64) -> OrderType {
+pub fn sell(id: u64, qty: u64) -> OrderType
+    ensures { λ r. ⌜ r ≡ Market (record { 0 = id }) Ask (record { 0 = qty }) ⌝ }
+{
     OrderType::Market {
         id: Id(id),
         side: Side::Ask,
@@ -107,7 +118,9 @@ pub fn sell(id: u64, qty: u64) -> OrderType {
     }
 }
 
-pub fn cancel(id: u64) -> OrderType {
+pub fn cancel(id: u64) -> OrderType
+    ensures { λ r. ⌜ r ≡ Cancel (record { 0 = id }) ⌝ }
+{
     OrderType::Cancel { id: Id(id) }
 }
 
