@@ -1,5 +1,6 @@
 //! Whole books of many kinds, made by random steps, for the calls that are tried on them.
 
+use crate::layout::blank;
 use crate::plain::{LastTrade, Plain};
 use crate::random::Random;
 use crate::shapes::{Draw, SHAPES};
@@ -23,7 +24,7 @@ pub struct Books {
 impl Books {
     pub fn new(size: Size, seed: u64) -> Result<Books, String> {
         let draw = Draw::new(Random::new(seed ^ 0xb00c));
-        let (stored, plain) = (Stored::blank(size), Plain::new(size));
+        let (stored, plain) = (blank(size), Plain::new(size));
         let mut books = Books { size, random: Random::new(seed), draw, shape: 0, age: LIFE, stored, plain };
         books.begin()?;
         Ok(books)
@@ -32,8 +33,8 @@ impl Books {
     fn begin(&mut self) -> Result<(), String> {
         self.shape = self.random.below(SHAPES.len() as u64) as usize;
         self.age = 0;
-        self.stored = Stored::blank(self.size);
-        self.stored.fresh();
+        self.stored = blank(self.size);
+        equal("a fresh book", &self.stored.fresh(), &0)?;
         self.plain = Plain::new(self.size);
         // one book in three begins crowded: that many orders rest, at prices apart
         if self.random.one_in(3) {

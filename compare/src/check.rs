@@ -3,7 +3,7 @@
 //! agree with each other, with wrong lengths and sizes, and on storage full of chance.
 
 use crate::damage::{changed_links, changed_number, changed_together, part_of, PARTS};
-use crate::layout::{any_desk, laid_out};
+use crate::layout::{any_desk, blank, laid_out};
 use crate::random::Random;
 use crate::whole::whole;
 use felavuti::{Refusal, Size, Stored};
@@ -118,7 +118,7 @@ impl Tally {
             self.ask("lengths and sizes", other, good, || format!("the size said to be {other:?}, not {size:?}"));
         }
         let none = Size { orders: 0, ..size };
-        self.ask("lengths and sizes", none, &Stored::blank(none), || "a size of no orders".into());
+        self.ask("lengths and sizes", none, &blank(none), || "a size of no orders".into());
         let mut longer = good.clone();
         [&mut longer.bids, &mut longer.asks].into_iter().for_each(|rows| rows.resize(rows.len() + 3, 1));
         let other = Size { prices: size.prices + 1, ..size };
@@ -128,7 +128,7 @@ impl Tally {
     /// Storage of the right lengths, full of small numbers.
     fn chance(&mut self, size: Size, random: &mut Random) {
         for _ in 0..SEVERAL {
-            let mut stored = Stored::blank(size);
+            let mut stored = blank(size);
             let zeros = random.between(1, 4);
             for (part, name) in PARTS.iter().enumerate() {
                 let most = if *name == "records" { size.orders as u64 + 2 } else { size.orders as u64 + 1 };

@@ -84,7 +84,7 @@ const EXAMPLES: &[Example] = &[
         due: &[
             "tracking on",
             "Placed 1",
-            "refused (3): the traded sum or the volume would exceed 2^64 - 1",
+            "refused (3): tracking is on, there are fills, and the sum of price times quantity or the new volume exceeds 2^64 - 1",
             "tracking off",
             "Filled 2 2 (2 from 1 at 9223372036854775808, whole)",
             "volume 0",

@@ -211,7 +211,7 @@ const GAPS: &[Gap] = &[
             "Placed 1",
             "Filled 2 18446744073709551615 (18446744073709551615 from 1 at 0, whole)",
             "Placed 3",
-            "refused (3): the traded sum or the volume would exceed 2^64 - 1",
+            "refused (3): tracking is on, there are fills, and the sum of price times quantity or the new volume exceeds 2^64 - 1",
             "volume 18446744073709551615",
             "ask 0",
         ]),
@@ -233,7 +233,7 @@ const GAPS: &[Gap] = &[
         ours: Some(&[
             "tracking on",
             "Placed 1",
-            "refused (3): the traded sum or the volume would exceed 2^64 - 1",
+            "refused (3): tracking is on, there are fills, and the sum of price times quantity or the new volume exceeds 2^64 - 1",
             "last -",
             "volume 0",
             "ask 9223372036854775808",
@@ -252,7 +252,13 @@ const GAPS: &[Gap] = &[
             "last 2, average 0.0, 1 at 9223372036854775808",
         ],
         debug: Some(&["tracking on", "Placed 1", "Placed 2", "PANIC: attempt to add with overflow", "last -"]),
-        ours: Some(&["tracking on", "Placed 1", "Placed 2", "refused (3): the traded sum or the volume would exceed 2^64 - 1", "last -"]),
+        ours: Some(&[
+            "tracking on",
+            "Placed 1",
+            "Placed 2",
+            "refused (3): tracking is on, there are fills, and the sum of price times quantity or the new volume exceeds 2^64 - 1",
+            "last -",
+        ]),
     },
     Gap {
         of: "models.rs, Trade::avg_price; lib.rs",

@@ -54,9 +54,14 @@ fn any_price(kind: u64, size: Size, side: Side, random: &mut Random) -> u64 {
     }
 }
 
+/// Storage for a book of a size, all zero.
+pub fn blank(size: Size) -> Stored {
+    Stored::blank(size).expect("there is memory for books as small as ours")
+}
+
 /// The stored book of a desk, in one of its many placements.
 pub fn laid_out(plain: &Plain, random: &mut Random) -> Stored {
-    let mut stored = Stored::blank(plain.size);
+    let mut stored = blank(plain.size);
     if random.one_in(2) {
         // what no sentence speaks of may hold anything
         let numbers = stored.records.iter_mut().chain(&mut stored.bids).chain(&mut stored.asks).chain(&mut stored.desk[4..]);

@@ -6,6 +6,7 @@
 
 use crate::books::{equal, Books};
 use crate::damage::{changed_number, changed_together};
+use crate::layout::blank;
 use crate::plain::Plain;
 use crate::random::Random;
 use crate::step::{cancel, limit, market, Step};
@@ -308,8 +309,8 @@ fn together(size: Size, seed: u64) -> Result<Counts, String> {
         let on = |bit: u32| case >> bit & 1 == 1;
         let (side, fills) = (if on(0) { Side::Bid } else { Side::Ask }, on(1));
         let mut books = Books::new(size, seed)?;
-        (books.stored, books.plain) = (Stored::blank(size), Plain::new(size));
-        books.stored.fresh();
+        (books.stored, books.plain) = (blank(size), Plain::new(size));
+        equal("a fresh book", &books.stored.fresh(), &0)?;
         // own prices: as many as a side can have, or one fewer; the other side fills the book, or leaves one place
         let own = size.prices - usize::from(!on(2));
         let others = size.orders - own - usize::from(!on(3));

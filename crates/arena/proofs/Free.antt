@@ -9,9 +9,9 @@ use lib.Dec.{eqb, ltb}
 use lib.ListN.{length, length-set}
 use borrow.Author.Tests.{eqb-true, ltb-false, ltb-true}
 use Rattle.rules.specs.Whole.{one}
-use Rattle.records.specs.Rows.{Row, field, put}
+use Rattle.records.specs.Rows.{RecordAt, field, put}
 use Rattle.records.proofs.Rows.{field-column, field-record, field-same, row-length}
-use Rattle.arena.specs.Free.{Chain, Freed, chain, down, given, written}
+use Rattle.arena.specs.Free.{Chain, Freed, chain, down, returned, recordWritten}
 use Rattle.arena.specs.Links.{link}
 use Rattle.arena.specs.Ring.{Run}
 use Rattle.arena.specs.Times.{isCode, times}
@@ -21,16 +21,16 @@ pub chain-frame : (rs ss : List ℕ) (f : ℕ) (l : List ℕ) → ((x : ℕ) →
 chain-frame rs ss f [] a h = h
 chain-frame rs ss f (d ∷ l) a h = (h .0, rw (← a d (omega (arith, one-self d))) (chain-frame rs ss (field rs 3 d) l (λ x i. a x (omega arith)) (h .1)))
 
-pub given-length : (rs : List ℕ) (c f : ℕ) → length (given rs c f) ≡ length rs
+pub given-length : (rs : List ℕ) (c f : ℕ) → length (returned rs c f) ≡ length rs
 given-length rs c f = length-set (put rs 1 c 0) ((c - 1) * 5 + 3) f ∙ length-set rs ((c - 1) * 5 + 1) 0
 
-pub given-other : (rs : List ℕ) (g c f x : ℕ) → g < 5 → 1 ≤ c → 1 ≤ x → x ≢ c → field (given rs c f) g x ≡ field rs g x
+pub given-other : (rs : List ℕ) (g c f x : ℕ) → g < 5 → 1 ≤ c → 1 ≤ x → x ≢ c → field (returned rs c f) g x ≡ field rs g x
 given-other rs g c f x h p q d = field-record (put rs 1 c 0) 3 g c x f (omega arith) h p q d ∙ field-record rs 1 g c x 0 (omega arith) h p q d
 
-pub written-length : (rs : List ℕ) (c id q p : ℕ) → length (written rs c id q p) ≡ length rs
+pub written-length : (rs : List ℕ) (c id q p : ℕ) → length (recordWritten rs c id q p) ≡ length rs
 written-length rs c id q p = length-set (put (put rs 0 c id) 1 c q) ((c - 1) * 5 + 2) p ∙ (length-set (put rs 0 c id) ((c - 1) * 5 + 1) q ∙ length-set rs ((c - 1) * 5 + 0) id)
 
-pub written-other : (rs : List ℕ) (g c id q p x : ℕ) → g < 5 → 1 ≤ c → 1 ≤ x → x ≢ c → field (written rs c id q p) g x ≡ field rs g x
+pub written-other : (rs : List ℕ) (g c id q p x : ℕ) → g < 5 → 1 ≤ c → 1 ≤ x → x ≢ c → field (recordWritten rs c id q p) g x ≡ field rs g x
 written-other rs g c id q p x h a b d =
     field-record (put (put rs 0 c id) 1 c q) 2 g c x p (omega arith) h a b d ∙ (field-record (put rs 0 c id) 1 g c x q (omega arith) h a b d ∙ field-record rs 0 g c x id (omega arith) h a b d)
 
@@ -90,23 +90,23 @@ down-code n (suc i) = go (ltb i n) refl
 pub freed-start : (rs : List ℕ) → Freed rs 0
 freed-start rs = record { free = refl; none = λ x h. absurd (let z : ⊥ = omega arith in z) }
 
-pub freed-row : (rs : List ℕ) (i : ℕ) → i < length rs / 5 → Row rs (i + 1)
+pub freed-row : (rs : List ℕ) (i : ℕ) → i < length rs / 5 → RecordAt rs (i + 1)
 freed-row rs i h = record { some = omega arith; inside = omega arith }
 
-pub freed-step : (rs : List ℕ) (i : ℕ) → i < length rs / 5 → Freed rs i → Freed (given rs (i + 1) i) (i + 1)
+pub freed-step : (rs : List ℕ) (i : ℕ) → i < length rs / 5 → Freed rs i → Freed (returned rs (i + 1) i) (i + 1)
 freed-step rs i h s =
     let e : i + 1 ≡ suc i = omega arith in
-    let row : Row rs (suc i) = rw e at (freed-row rs i h) in
+    let row : RecordAt rs (suc i) = rw e at (freed-row rs i h) in
     rw e (record {
       free = (
         refl,
         rw (field-same (put rs 1 (suc i) 0) 3 (suc i) i (omega arith) (row-length _ (length-set rs ((suc i - 1) * 5 + 1) 0) row))
-            (chain-frame rs (given rs (suc i) i) i (down i) (λ x j. let z = down-range i x j in sym (given-other rs 3 (suc i) i x (omega arith) (omega arith) (z .0) (omega arith))) (s .free)),
+            (chain-frame rs (returned rs (suc i) i) i (down i) (λ x j. let z = down-range i x j in sym (given-other rs 3 (suc i) i x (omega arith) (omega arith) (z .0) (omega arith))) (s .free)),
       );
       none = λ x j. go rs s row x j (eqb x (suc i)) refl;
     })
   where
-    go : (rs : List ℕ) → Freed rs i → Row rs (suc i) → (x : ℕ) → 1 ≤ times x (down (suc i)) → (b : Bool) → eqb x (suc i) ≡ b → field (given rs (suc i) i) 1 x ≡ 0
+    go : (rs : List ℕ) → Freed rs i → RecordAt rs (suc i) → (x : ℕ) → 1 ≤ times x (down (suc i)) → (b : Bool) → eqb x (suc i) ≡ b → field (returned rs (suc i) i) 1 x ≡ 0
     go rs s row x j true e = rw (eqb-true x (suc i) e) (field-column (put rs 1 (suc i) 0) 3 1 (suc i) (suc i) i (omega arith) (omega arith) (omega arith) ∙ field-same rs 1 (suc i) 0 (omega arith) row)
     go rs s row x j false e =
         let y : 1 ≤ times x (down i) = omega (arith, ap one e) in

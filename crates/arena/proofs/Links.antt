@@ -8,18 +8,18 @@ use lib.Dec.{eqb}
 use lib.ListN.{getD, length, length-set, set}
 use lib.Seq.{getD-set-other, getD-set-same}
 use Rattle.rules.specs.Whole.{one}
-use Rattle.records.specs.Rows.{Row, field, put}
+use Rattle.records.specs.Rows.{RecordAt, field, put}
 use Rattle.records.proofs.Rows.{field-column, field-record, field-same}
 use Rattle.arena.specs.Links.{appended, link, linkLv, linkRs, untied}
 use Rattle.arena.specs.Times.{times}
 use Rattle.arena.proofs.Times.{one-other}
 
 -- node p tied to v, where it is a record's or the row's at `at`
-module _ (rs lv : List ℕ) (f at p v : ℕ) (col : f < 5) (row : at < length lv) (rec : 1 ≤ p → Row rs p) where
+module _ (rs lv : List ℕ) (f at p v : ℕ) (col : f < 5) (row : at < length lv) (rec : 1 ≤ p → RecordAt rs p) where
   pub tie-same : link (linkRs rs f p v) f (getD (linkLv lv at p v) at 0) p ≡ v
   tie-same = go p rec
     where
-      go : (p : ℕ) → (1 ≤ p → Row rs p) → link (linkRs rs f p v) f (getD (linkLv lv at p v) at 0) p ≡ v
+      go : (p : ℕ) → (1 ≤ p → RecordAt rs p) → link (linkRs rs f p v) f (getD (linkLv lv at p v) at 0) p ≡ v
       go zero h = getD-set-same lv at v 0 row
       go (suc r) h = field-same rs f (suc r) v col (h (omega arith))
 

@@ -9,7 +9,7 @@ use lib.Dec.{eqb, ltb}
 use lib.ListN.{length}
 use borrow.Author.Tests.{eq-eqb, ltb-true, ne-eqb}
 use Rattle.rules.specs.Whole.{one}
-use Rattle.records.specs.Rows.{Row}
+use Rattle.records.specs.Rows.{RecordAt}
 use Rattle.arena.specs.Times.{isCode, times}
 
 pub times-append : (x : ℕ) (a b : List ℕ) → times x (a ++ b) ≡ times x a + times x b
@@ -45,10 +45,10 @@ isCode-one n (suc i) = go (ltb i n)
     go true = omega (arith, one-other (suc i) 0 (omega arith))
     go false = omega (arith, one-other (suc i) 0 (omega arith))
 
-pub isCode-row : (n x : ℕ) (rs : List ℕ) → length rs ≡ n * 5 → 1 ≤ isCode n x → Row rs x
+pub isCode-row : (n x : ℕ) (rs : List ℕ) → length rs ≡ n * 5 → 1 ≤ isCode n x → RecordAt rs x
 isCode-row n zero rs e h = absurd (let z : ⊥ = omega arith in z)
 isCode-row n (suc i) rs e h = go (ltb i n) refl
   where
-    go : (t : Bool) → ltb i n ≡ t → Row rs (suc i)
+    go : (t : Bool) → ltb i n ≡ t → RecordAt rs (suc i)
     go true f = record { some = omega arith; inside = omega (arith, ltb-true i n f, e) }
     go false f = absurd (let z : ⊥ = omega (arith, ap one f) in z)

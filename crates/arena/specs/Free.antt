@@ -18,12 +18,12 @@ chain (suc m) rs zero = []
 chain (suc m) rs (suc i) = suc i ∷ chain m rs (field rs 3 (suc i))
 
 -- the record c given back: quantity 0, and the free places from f on behind it
-abbrev pub given : List ℕ → ℕ → ℕ → List ℕ
-given rs c f = put (put rs 1 c 0) 3 c f
+abbrev pub returned : List ℕ → ℕ → ℕ → List ℕ
+returned rs c f = put (put rs 1 c 0) 3 c f
 
 -- the record c written: id, quantity, price
-abbrev pub written : List ℕ → ℕ → ℕ → ℕ → ℕ → List ℕ
-written rs c id q p = put (put (put rs 0 c id) 1 c q) 2 c p
+abbrev pub recordWritten : List ℕ → ℕ → ℕ → ℕ → ℕ → List ℕ
+recordWritten rs c id q p = put (put (put rs 0 c id) 1 c q) 2 c p
 
 -- the codes from i down to 1
 abbrev pub down : ℕ → List ℕ

@@ -3,9 +3,12 @@
 ghost use mathlib.Core.Path.{_≡_};
 ghost use Prim.Native.Nat.{_+_, _*_, _<_, _≤_};
 ghost use lib.ListN.{length};
-ghost use Rattle.records.specs.Rows.{Row, field, places};
+ghost use Rattle.records.specs.Rows.{RecordAt, field, recordCount};
 ghost use Rattle.arena.specs.Links.{tailOf, linkRs, linkLv, untied, untiedRow, appended, appendedRow};
-ghost use Rattle.arena.specs.Free.{given, written, Freed};
+ghost use Rattle.arena.specs.Free.{returned, recordWritten, Freed};
+use models::Id;
+use models::Price;
+use models::Quantity;
 use records::ID;
 use records::NEXT;
 use records::PREV;
@@ -25,7 +28,7 @@ pub const ROW: usize = 3;
 // The node `p` of the queue whose row has its end at `at`, tied to `v` by column `f`: node 0 is the row.
 pub fn fasten(records: &mut [u64], levels: &mut [u64], f: usize, at: usize, p: u64, v: u64)
     requires { ⌜ (f < 5) × (at < length (now levels)) ⌝ }
-    requires { ⌜ (1 ≤ p → Row (now records) p) ⌝ }
+    requires { ⌜ (1 ≤ p → RecordAt (now records) p) ⌝ }
     ensures { λ _. ⌜ now (records .exit) ≡ linkRs (now (records .entry)) f p v ⌝ }
     ensures { λ _. ⌜ now (levels .exit) ≡ linkLv (now (levels .entry)) at p v ⌝ }
 {
@@ -38,9 +41,9 @@ pub fn fasten(records: &mut [u64], levels: &mut [u64], f: usize, at: usize, p: u
 
 // The record `c` out of its queue, that of row k: what came before it is tied to what followed it.
 pub fn unlink(records: &mut [u64], levels: &mut [u64], k: usize, c: u64)
-    requires { ⌜ (k * 3 + 2 < length (now levels)) × Row (now records) c
-        × (1 ≤ field (now records) 4 c → Row (now records) (field (now records) 4 c))
-        × (1 ≤ field (now records) 3 c → Row (now records) (field (now records) 3 c)) ⌝ }
+    requires { ⌜ (k * 3 + 2 < length (now levels)) × RecordAt (now records) c
+        × (1 ≤ field (now records) 4 c → RecordAt (now records) (field (now records) 4 c))
+        × (1 ≤ field (now records) 3 c → RecordAt (now records) (field (now records) 3 c)) ⌝ }
     ensures { λ _. ⌜ now (records .exit) ≡ untied (now (records .entry)) (field (now (records .entry)) 4 c) (field (now (records .entry)) 3 c) ⌝ }
     ensures { λ _. ⌜ now (levels .exit) ≡ untiedRow (now (levels .entry)) k (field (now (records .entry)) 4 c) (field (now (records .entry)) 3 c) ⌝ }
 {
@@ -53,7 +56,7 @@ pub fn unlink(records: &mut [u64], levels: &mut [u64], k: usize, c: u64)
 
 // The record `c` behind the last of row k's queue.
 pub fn append(records: &mut [u64], levels: &mut [u64], k: usize, c: u64)
-    requires { ⌜ (k * 3 + 2 < length (now levels)) × Row (now records) c × (1 ≤ tailOf (now levels) k → Row (now records) (tailOf (now levels) k)) ⌝ }
+    requires { ⌜ (k * 3 + 2 < length (now levels)) × RecordAt (now records) c × (1 ≤ tailOf (now levels) k → RecordAt (now records) (tailOf (now levels) k)) ⌝ }
     ensures { λ _. ⌜ now (records .exit) ≡ appended (now (records .entry)) (tailOf (now (levels .entry)) k) c ⌝ }
     ensures { λ _. ⌜ now (levels .exit) ≡ appendedRow (now (levels .entry)) k (tailOf (now (levels .entry)) k) c ⌝ }
 {
@@ -67,26 +70,26 @@ pub fn append(records: &mut [u64], levels: &mut [u64], k: usize, c: u64)
 
 // The first free place `free` is taken: the free place behind it is the first then.
 pub fn take(records: &[u64], free: u64) -> u64
-    requires { ⌜ Row (now records) free ⌝ }
+    requires { ⌜ RecordAt (now records) free ⌝ }
     ensures { λ r. ⌜ r ≡ field (now (records .entry)) 3 free ⌝ }
 {
     load(records, NEXT, free)
 }
 
 // The record `c` written.
-pub fn write(records: &mut [u64], c: u64, id: u64, quantity: u64, price: u64)
-    requires { ⌜ Row (now records) c ⌝ }
-    ensures { λ _. ⌜ now (records .exit) ≡ written (now (records .entry)) c id quantity price ⌝ }
+pub fn write(records: &mut [u64], c: u64, id: Id, quantity: Quantity, price: Price)
+    requires { ⌜ RecordAt (now records) c ⌝ }
+    ensures { λ _. ⌜ now (records .exit) ≡ recordWritten (now (records .entry)) c (id .0) (quantity .0) (price .0) ⌝ }
 {
-    store(records, ID, c, id);
-    store(records, QUANTITY, c, quantity);
-    store(records, PRICE, c, price);
+    store(records, ID, c, id.0);
+    store(records, QUANTITY, c, quantity.0);
+    store(records, PRICE, c, price.0);
 }
 
 // The record `c` given back: it comes before the free place `free`.
 pub fn give_back(records: &mut [u64], free: u64, c: u64)
-    requires { ⌜ Row (now records) c ⌝ }
-    ensures { λ _. ⌜ now (records .exit) ≡ given (now (records .entry)) c free ⌝ }
+    requires { ⌜ RecordAt (now records) c ⌝ }
+    ensures { λ _. ⌜ now (records .exit) ≡ returned (now (records .entry)) c free ⌝ }
 {
     store(records, QUANTITY, c, 0);
     store(records, NEXT, c, free);
@@ -94,7 +97,7 @@ pub fn give_back(records: &mut [u64], free: u64, c: u64)
 
 // Every place freed; the first free one then.
 pub fn free_all(records: &mut [u64]) -> u64
-    ensures { λ r. ⌜ (r ≡ places (now (records .entry))) × Freed (now (records .exit)) r ⌝ }
+    ensures { λ r. ⌜ (r ≡ recordCount (now (records .entry))) × Freed (now (records .exit)) r ⌝ }
 {
     let n = records.len() / WIDTH;
     let mut i = 0;

@@ -10,13 +10,17 @@ use lib.ListN.{length, length-reverse}
 use borrow.Author.Tests.{le-ltb, lt-ltb, not-true, not-false}
 use Rattle.rules.specs.Rules as rule
 use Rattle.rules.specs.Rules.{anyAbove, firstOf, levels, most, reply}
+use Rattle.rules.specs.Late.{fillsOf}
 use Rattle.rules.proofs.Turns.{best-apart}
 use Rattle.models.specs.declared.Statistics.{Statistics}
 use Rattle.models.specs.Readings.{statisticsOf}
-use Rattle.records.specs.Rows.{places as rows}
+use Rattle.models.specs.Rows.{fillRow, written}
+use Rattle.models.proofs.Places.{written-none, fill-faithful}
+use Rattle.records.specs.Rows.{recordCount}
 use Rattle.ledger.specs.declared.OrderBook.{OrderBook}
-use Rattle.ledger.specs.Desk.{Desk, Leaves, deskBook, found}
-use Rattle.whole.specs.Whole.{Lengths}
+use Rattle.ledger.specs.Stock.{Stock, stock}
+use Rattle.ledger.specs.Desk.{LeavesAs, LedgerIn, found, readBook, storedBook}
+use Rattle.whole.specs.Whole.{Lengths, WholeStock}
 use Rattle.whole.proofs.Join.{whole-desk, whole-book, desk-whole, fresh-whole}
 use Rattle.depth.specs.declared.Quote.{Quote}
 use Rattle.depth.specs.Answers.{quoteOf}
@@ -24,18 +28,18 @@ use Rattle.depth.proofs.Desk.{standing-bids, bid-count, ask-count}
 use Rattle.depth.proofs.Levels.{levels-ascending}
 use Rattle.depth.proofs.Totals.{above-in}
 use Rattle.desk.specs.declared.Answer.{Answer}
-use Rattle.desk.specs.Stock.{Stock, Sound, bookIn}
+use Rattle.desk.specs.Stock.{Sound}
 use Rattle.desk.specs.Performs.{Performs, refused, carried}
-use Rattle.calls.specs.declared.Deep.the-variants as deep
-use Rattle.calls.specs.Calls.{Executes, performed, WholeStock, Begins, lowestAsk, highestBid, Below}
+use Rattle.calls.specs.Answers.{Reading, value}
+use Rattle.calls.specs.Calls.{Executes, broken, performed, Begins, lowestAsk, highestBid, Below}
 
 -- ## a whole stock is what the doors know, and comes back from it
 
 pub whole-sound : {z : rule.Size} {k : Stock} → WholeStock z k → Sound z k
-whole-sound w = record { lengths = w .lengths; desk = whole-desk w; orderly = whole-book w }
+whole-sound w = record { lengths = w .lengths; tidy = whole-desk w; orderly = whole-book w }
 
 pub sound-whole : {z : rule.Size} {k : Stock} → Sound z k → WholeStock z k
-sound-whole s = desk-whole (s .lengths) (s .desk) (s .orderly)
+sound-whole s = desk-whole (s .lengths) (s .tidy) (s .orderly)
 
 pub performs-whole : {z : rule.Size} {c : rule.Call (Unit {0})} {k k′ : Stock} {st st′ : Statistics} {out out′ : List ℕ} {a : Answer}
     → Performs (Sound z) z c k st out a k′ st′ out′ → Performs (WholeStock z) z c k st out a k′ st′ out′
@@ -44,8 +48,8 @@ performs-whole (carried e l u p d v t) = carried e l u p d (sound-whole v) t
 
 -- ## quotes
 
-pub below : {z : rule.Size} (k : Stock) → WholeStock z k → (b a : Quote) → quoteOf b ≡ highestBid (bookIn k) → quoteOf a ≡ lowestAsk (bookIn k) → Below b a
-below k w b a e f p q x y = best-apart (bookIn k) ((whole-sound {k = k} w) .orderly .orderly) p q (sym e ∙ x) (sym f ∙ y)
+pub below : {z : rule.Size} (k : Stock) → WholeStock z k → (b a : Quote) → quoteOf b ≡ highestBid (readBook k) → quoteOf a ≡ lowestAsk (readBook k) → Below b a
+below k w b a e f p q x y = best-apart (readBook k) ((whole-sound {k = k} w) .orderly .orderly) p q (sym e ∙ x) (sym f ∙ y)
 
 pub no-bid : (o : Option ℕ) → none ≡ rule.spread none o
 no-bid none = refl
@@ -57,9 +61,9 @@ spread-same b a q h e f = h ∙ (λ i. rule.spread (e i) (f i))
 -- ## depth
 
 -- the levels of a desk are as many as its rows, and one list of bids is as large as the other
-module _ {rs bd ak se : List ℕ} {r f nb na : ℕ} (w : Desk rs bd ak se r f nb na) where
+module _ {rs bd ak se : List ℕ} {r f nb na : ℕ} (w : LedgerIn rs bd ak se r f nb na) where
   abbrev k : rule.Book (Unit {0})
-  k = deskBook rs bd ak se nb na
+  k = storedBook rs bd ak se nb na
 
   back-count : length (reverse (levels (k .bids))) ≡ nb
   back-count = length-reverse (levels (k .bids)) ∙ bid-count w
@@ -70,9 +74,8 @@ module _ {rs bd ak se : List ℕ} {r f nb na : ℕ} (w : Desk rs bd ak se r f nb
   bids-back : anyAbove most (reverse (levels (k .bids))) ≡ anyAbove most (levels (k .bids))
   bids-back = ap (anyAbove most) (levels-ascending (standing-bids w) rule.bid (found se rs)) ∙ sym (above-in (standing-bids w) rule.bid (found se rs))
 
-  pub told-counts : (n : ℕ) → deep.Told (record { levels = n; asks = na; bids = nb })
-      ≡ deep.Told (record { levels = n; asks = length (levels (k .asks)); bids = length (reverse (levels (k .bids))) })
-  told-counts n = sym (λ i. deep.Told (record { levels = n; asks = ask-count w i; bids = back-count i }))
+  pub told-counts : (n : ℕ) → _≡_ {A = Reading (ℕ × ℕ × ℕ)} (value (n, na, nb)) (value (n, length (levels (k .asks)), length (reverse (levels (k .bids)))))
+  told-counts n = sym (λ i. value (n, ask-count w i, back-count i))
 
   module _ (n room : ℕ) (st : rule.Stats) where
     pub depth-short : room < na + nb → reply (record { book = k; stats = st }) (rule.depth n room) ≡ rule.Reply.refused 6
@@ -110,21 +113,30 @@ search-found b i st e = ap rule.found (sym e)
 -- ## a fresh book
 
 module _ {z : rule.Size} {rs bd ak se : List ℕ} (l : Lengths z rs bd ak se) where
-  pub fresh-asks : (length rs ≡ rows rs * 5) × (rows rs < length se)
+  pub fresh-asks : (length rs ≡ recordCount rs * 5) × (recordCount rs < length se)
   fresh-asks = (omega (arith, l .records), omega (arith, l .records, l .some, l .search))
 
   pub begins : {b : OrderBook} {st : Statistics} {rs′ se′ : List ℕ} → length rs′ ≡ length rs → length se′ ≡ length se
-      → Leaves (record { bids = []; asks = [] }) rs′ bd ak se′ (b .resting) (b .free) (b .bids) (b .asks) → statisticsOf st ≡ (rule.fresh {A = Unit {0}}) .stats
-      → Begins z (record { book = b; records = rs′; bids = bd; asks = ak; search = se′ }) st
+      → LeavesAs (record { bids = []; asks = [] }) (stock b rs′ bd ak se′) → statisticsOf st ≡ (rule.fresh {A = Unit {0}}) .stats
+      → Begins z (stock b rs′ bd ak se′) st
   begins {b} {st} e f v s =
       record {
         whole = fresh-whole (record { some = l .some; records = e ∙ l .records; bids = l .bids; asks = l .asks; search = f ∙ l .search }) v;
         desk = λ i. record { book = v .book i; stats = s i };
       }
 
--- ## an order by its kind: c is the call of the rules that it reads as
+-- ## an order by its kind
 
-pub ordered : {z : rule.Size} {c c′ : rule.Call (Unit {0})} {k k′ : Stock} {st st′ : Statistics} {out out′ : List ℕ} {a : Answer} → WholeStock z k → c ≡ c′
-    → Performs (Sound z) z c′ k st out a k′ st′ out′ → Executes z c k st out a k′ st′ out′
-ordered {z} {c} {c′} {k} {k′} {st} {st′} {out} {out′} {a} w e p =
-    performed w (performs-whole (subst (λ (v : rule.Call (Unit {0})). Performs (Sound z) z v k st out a k′ st′ out′) (sym e) p))
+module _ {z : rule.Size} {k k′ : Stock} {st st′ : Statistics} {a : Answer} where
+  -- c is the call of the rules that it reads as
+  pub executes-as : {c c′ : rule.Call (Unit {0})} {out out′ : List ℕ} → c ≡ c′ → Executes z c k st out a k′ st′ out′ → Executes z c′ k st out a k′ st′ out′
+  executes-as {out = out} {out′} e x = subst (λ (v : rule.Call (Unit {0})). Executes z v k st out a k′ st′ out′) e x
+
+  -- a cancel has no fills: whatever buffer is lent keeps its values
+  pub cancels-beside : {id : ℕ} (out : List ℕ) → Executes z (rule.cancel id) k st [] a k′ st′ [] → Executes z (rule.cancel id) k st out a k′ st′ out
+  unfolding rule.perform
+  cancels-beside out (broken n p q r s) = broken n p q r refl
+  cancels-beside out (performed w (refused n u p q r s)) = performed w (refused n u p q r refl)
+  cancels-beside out (performed w (carried e l u p d v t)) =
+      let f : l ≡ [] = sym (ap (fillsOf {A = Unit {0}}) u) in
+      performed w (carried e l u p d v (sym (ap (written fillRow out 0) f ∙ written-none fillRow (fill-faithful .long) out 0)))

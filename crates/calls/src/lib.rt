@@ -2,13 +2,15 @@
 // Storage is lent as numbers: records, level rows of bids and asks, places of the search; the small values go in and come back.
 ghost use mathlib.Core.Path.{_≡_};
 ghost use mathlib.Core.List.{[]};
+ghost use Prim.Native.Nat.{ℕ};
 ghost use Rattle.rules.specs.Rules as rule;
 ghost use Rattle.models.specs.Readings.{callOf};
 ghost use Rattle.models.specs.Rows.{fillRow, places};
 ghost use Rattle.whole.specs.Whole.{sizeOf};
-ghost use Rattle.desk.specs.Stock.{Stock};
+ghost use Rattle.ledger.specs.Stock.{stock};
+ghost use Rattle.survey.specs.Taker.{takerOf};
 ghost use Rattle.depth.specs.Answers.{quoteOf};
-ghost use Rattle.calls.specs.Calls.{Executes, Below, Tells, lowestAsk, highestBid, spreadOf, Shows, Finds, Makes};
+ghost use Rattle.calls.specs.Calls.{Executes, callFor, Below, Tells, lowestAsk, highestBid, spreadOf, Shows, Finds, Makes};
 use depth::Lookup;
 use depth::Quote;
 use depth::first_occupied;
@@ -23,6 +25,7 @@ use models::Id;
 use models::OrderEvent;
 use models::OrderType;
 use models::Price;
+use models::Side;
 use models::Statistics;
 use models::rows::level_places;
 use survey::Taker;
@@ -80,6 +83,39 @@ pub fn fresh(
     Opening::Made(book, statistics)
 }
 
+// What an order asks of the desk: to be carried out, or that another is taken back.
+enum Request {
+    Enter(Taker),
+    Withdraw(Id),
+}
+
+fn request_of(order: OrderType) -> Request
+    ensures { λ r. ⌜ ((room : ℕ) → callFor room r ≡ callOf room order) ⌝ }
+{
+    match order {
+        OrderType::Market { id, side, qty } => Request::Enter(Taker {
+            id,
+            side,
+            any: true,
+            limit: Price(0),
+            qty,
+        }),
+        OrderType::Limit {
+            id,
+            side,
+            qty,
+            price,
+        } => Request::Enter(Taker {
+            id,
+            side,
+            any: false,
+            limit: price,
+            qty,
+        }),
+        OrderType::Cancel { id } => Request::Withdraw(id),
+    }
+}
+
 // The order found under the id leaves, if there is one.
 pub fn cancel(
     size: Size,
@@ -92,8 +128,8 @@ pub fn cancel(
     id: Id,
 ) -> Executed
     ensures { λ r. ⌜ Executes (sizeOf size) (rule.cancel (id .0))
-        (record { book = book; records = now (records .entry); bids = now (bids .entry); asks = now (asks .entry); search = now (search .entry) }) statistics [] (r .answer)
-        (record { book = r .book; records = now (records .exit); bids = now (bids .exit); asks = now (asks .exit); search = now (search .exit) }) (r .statistics) [] ⌝ }
+        (stock book (now (records .entry)) (now (bids .entry)) (now (asks .entry)) (now (search .entry))) statistics []
+        (r .answer) (stock (r .book) (now (records .exit)) (now (bids .exit)) (now (asks .exit)) (now (search .exit))) (r .statistics) [] ⌝ }
 {
     if !is_whole(size, book, records, bids, asks, search) {
         return Executed {
@@ -110,7 +146,43 @@ pub fn cancel(
     }
 }
 
-// An order or a cancel: a whole book is asked for first, then what the rules say is carried out.
+// An order that is to be carried out: a whole book is asked for first.
+fn enter(
+    size: Size,
+    book: OrderBook,
+    statistics: Statistics,
+    records: &mut [u64],
+    bids: &mut [u64],
+    asks: &mut [u64],
+    search: &mut [u64],
+    fills: &mut [u64],
+    t: Taker,
+) -> Executed
+    ensures { λ r. ⌜ Executes (sizeOf size) (rule.order (takerOf (places fillRow (now (fills .entry))) t))
+        (stock book (now (records .entry)) (now (bids .entry)) (now (asks .entry)) (now (search .entry))) statistics (now (fills .entry))
+        (r .answer) (stock (r .book) (now (records .exit)) (now (bids .exit)) (now (asks .exit)) (now (search .exit))) (r .statistics) (now (fills .exit)) ⌝ }
+{
+    if !is_whole(size, book, records, bids, asks, search) {
+        return Executed {
+            answer: Answer::Refused(NOT_WHOLE),
+            book,
+            statistics,
+        };
+    }
+    desk::order(
+        size,
+        book,
+        statistics,
+        records,
+        bids,
+        asks,
+        search,
+        fills,
+        t,
+    )
+}
+
+// An order or a cancel.
 pub fn execute(
     size: Size,
     book: OrderBook,
@@ -123,18 +195,12 @@ pub fn execute(
     order: OrderType,
 ) -> Executed
     ensures { λ r. ⌜ Executes (sizeOf size) (callOf (places fillRow (now (fills .entry))) order)
-        (record { book = book; records = now (records .entry); bids = now (bids .entry); asks = now (asks .entry); search = now (search .entry) }) statistics (now (fills .entry)) (r .answer)
-        (record { book = r .book; records = now (records .exit); bids = now (bids .exit); asks = now (asks .exit); search = now (search .exit) }) (r .statistics) (now (fills .exit)) ⌝ }
+        (stock book (now (records .entry)) (now (bids .entry)) (now (asks .entry)) (now (search .entry))) statistics (now (fills .entry))
+        (r .answer) (stock (r .book) (now (records .exit)) (now (bids .exit)) (now (asks .exit)) (now (search .exit))) (r .statistics) (now (fills .exit)) ⌝ }
 {
-    if !is_whole(size, book, records, bids, asks, search) {
-        return Executed {
-            answer: Answer::Refused(NOT_WHOLE),
-            book,
-            statistics,
-        };
-    }
-    match order {
-        OrderType::Market { id, side, qty } => desk::order(
+    let request = request_of(order);
+    match request {
+        Request::Enter(t) => enter(
             size,
             book,
             statistics,
@@ -143,44 +209,9 @@ pub fn execute(
             asks,
             search,
             fills,
-            Taker {
-                id,
-                side,
-                any: true,
-                limit: Price(0),
-                qty,
-            },
+            t,
         ),
-        OrderType::Limit {
-            id,
-            side,
-            qty,
-            price,
-        } => desk::order(
-            size,
-            book,
-            statistics,
-            records,
-            bids,
-            asks,
-            search,
-            fills,
-            Taker {
-                id,
-                side,
-                any: false,
-                limit: price,
-                qty,
-            },
-        ),
-        OrderType::Cancel { id } => {
-            let after = desk::withdraw(records, bids, asks, search, book, id);
-            Executed {
-                answer: Answer::Done(OrderEvent::Canceled { id }),
-                book: after,
-                statistics,
-            }
-        }
+        Request::Withdraw(id) => cancel(size, book, statistics, records, bids, asks, search, id),
     }
 }
 
@@ -193,12 +224,12 @@ pub fn min_ask(
     asks: &[u64],
     search: &[u64],
 ) -> Quoted
-    ensures { λ r. ⌜ Tells (sizeOf size) lowestAsk (record { book = book; records = now (records .entry); bids = now (bids .entry); asks = now (asks .entry); search = now (search .entry) }) r ⌝ }
+    ensures { λ r. ⌜ Tells (sizeOf size) lowestAsk (stock book (now (records .entry)) (now (bids .entry)) (now (asks .entry)) (now (search .entry))) r ⌝ }
 {
     if !is_whole(size, book, records, bids, asks, search) {
         return Quoted::Refused(NOT_WHOLE);
     }
-    let quote = first_occupied(asks, book.asks, true);
+    let quote = first_occupied(asks, book.asks, Side::Ask);
     Quoted::Told(quote)
 }
 
@@ -211,12 +242,12 @@ pub fn max_bid(
     asks: &[u64],
     search: &[u64],
 ) -> Quoted
-    ensures { λ r. ⌜ Tells (sizeOf size) highestBid (record { book = book; records = now (records .entry); bids = now (bids .entry); asks = now (asks .entry); search = now (search .entry) }) r ⌝ }
+    ensures { λ r. ⌜ Tells (sizeOf size) highestBid (stock book (now (records .entry)) (now (bids .entry)) (now (asks .entry)) (now (search .entry))) r ⌝ }
 {
     if !is_whole(size, book, records, bids, asks, search) {
         return Quoted::Refused(NOT_WHOLE);
     }
-    let quote = first_occupied(bids, book.bids, false);
+    let quote = first_occupied(bids, book.bids, Side::Bid);
     Quoted::Told(quote)
 }
 
@@ -243,13 +274,13 @@ pub fn spread(
     asks: &[u64],
     search: &[u64],
 ) -> Quoted
-    ensures { λ r. ⌜ Tells (sizeOf size) spreadOf (record { book = book; records = now (records .entry); bids = now (bids .entry); asks = now (asks .entry); search = now (search .entry) }) r ⌝ }
+    ensures { λ r. ⌜ Tells (sizeOf size) spreadOf (stock book (now (records .entry)) (now (bids .entry)) (now (asks .entry)) (now (search .entry))) r ⌝ }
 {
     if !is_whole(size, book, records, bids, asks, search) {
         return Quoted::Refused(NOT_WHOLE);
     }
-    let bid = first_occupied(bids, book.bids, false);
-    let ask = first_occupied(asks, book.asks, true);
+    let bid = first_occupied(bids, book.bids, Side::Bid);
+    let ask = first_occupied(asks, book.asks, Side::Ask);
     let quote = between(bid, ask);
     Quoted::Told(quote)
 }
@@ -265,7 +296,7 @@ pub fn depth(
     levels: usize,
     out: &mut [u64],
 ) -> Deep
-    ensures { λ r. ⌜ Shows (sizeOf size) levels (record { book = book; records = now (records .entry); bids = now (bids .entry); asks = now (asks .entry); search = now (search .entry) })
+    ensures { λ r. ⌜ Shows (sizeOf size) levels (stock book (now (records .entry)) (now (bids .entry)) (now (asks .entry)) (now (search .entry)))
         (now (out .entry)) r (now (out .exit)) ⌝ }
 {
     if !is_whole(size, book, records, bids, asks, search) {
@@ -300,7 +331,7 @@ pub fn get(
     search: &[u64],
     id: Id,
 ) -> Got
-    ensures { λ r. ⌜ Finds (sizeOf size) (id .0) (record { book = book; records = now (records .entry); bids = now (bids .entry); asks = now (asks .entry); search = now (search .entry) }) r ⌝ }
+    ensures { λ r. ⌜ Finds (sizeOf size) (id .0) (stock book (now (records .entry)) (now (bids .entry)) (now (asks .entry)) (now (search .entry))) r ⌝ }
 {
     if !is_whole(size, book, records, bids, asks, search) {
         return Got::Refused(NOT_WHOLE);

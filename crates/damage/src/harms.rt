@@ -1,7 +1,7 @@
 // Books that aren't whole: single numbers of a desk changed.
 use ledger::OrderBook;
 use orderbook::RECORDS;
-use script::Desk;
+use script::OwnDesk;
 use tell::put;
 
 // In a book of three orders on fresh storage: where the quantity and the price of order 1 stand (orders take their places from the last one down, five numbers each), where the search has its
@@ -19,7 +19,7 @@ const PLACE_OF_2: u64 = 1023;
 // Seven damages, and last none.
 pub const HARMS: u64 = 8;
 
-fn with_record(d: Desk, at: usize, v: u64) -> Desk {
+fn with_record(d: OwnDesk, at: usize, v: u64) -> OwnDesk {
     let mut after = d;
     if at < RECORDS {
         after.records[at] = v;
@@ -27,19 +27,19 @@ fn with_record(d: Desk, at: usize, v: u64) -> Desk {
     after
 }
 
-fn with_lowest_bid(d: Desk, price: u64) -> Desk {
+fn with_lowest_bid(d: OwnDesk, price: u64) -> OwnDesk {
     let mut after = d;
     after.bids[0] = price;
     after
 }
 
-fn with_home(d: Desk, place: u64) -> Desk {
+fn with_home(d: OwnDesk, place: u64) -> OwnDesk {
     let mut after = d;
     after.search[HOME_OF_1] = place;
     after
 }
 
-fn with_book(d: Desk, resting: usize, free: u64, asks: usize) -> Desk {
+fn with_book(d: OwnDesk, resting: usize, free: u64, asks: usize) -> OwnDesk {
     let mut after = d;
     let book = OrderBook {
         resting,
@@ -52,7 +52,7 @@ fn with_book(d: Desk, resting: usize, free: u64, asks: usize) -> Desk {
 }
 
 // The desk with damage k, told.
-pub fn damaged(d: Desk, k: u64) -> Desk {
+pub fn damaged(d: OwnDesk, k: u64) -> OwnDesk {
     let book = d.book;
     match k {
         0 => {

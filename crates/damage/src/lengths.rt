@@ -10,7 +10,7 @@ use models::Id;
 use orderbook::LEVELS;
 use orderbook::PLACES;
 use orderbook::RECORDS;
-use script::Desk;
+use script::OwnDesk;
 use script::MARK;
 use script::least;
 use tell::number;
@@ -71,7 +71,7 @@ fn tell_sizes(l: Sizes) {
 
 // A cancel of order 3 over the first numbers of the slices.
 fn cancel(
-    d: Desk,
+    d: OwnDesk,
     l: Sizes,
     records: &mut [u64],
     bids: &mut [u64],
@@ -94,7 +94,7 @@ fn cancel(
 }
 
 // The same over a desk's storage; for a refusal, whether everything is as it was.
-fn withdraw(d: Desk, l: Sizes) {
+fn withdraw(d: OwnDesk, l: Sizes) {
     let mut records = d.records;
     let mut bids = d.bids;
     let mut asks = d.asks;
@@ -103,7 +103,7 @@ fn withdraw(d: Desk, l: Sizes) {
     let answer = done.answer;
     let book = done.book;
     let statistics = done.statistics;
-    let after = Desk {
+    let after = OwnDesk {
         records,
         bids,
         asks,
@@ -153,7 +153,7 @@ fn fresh_of(l: Sizes) {
 }
 
 // A fresh book over lengths number k, and where a desk's own storage is enough for them a cancel too.
-pub fn attempt(d: Desk, k: u64) {
+pub fn attempt(d: OwnDesk, k: u64) {
     let l = other(k);
     tell_sizes(l);
     fresh_of(l);

@@ -7,7 +7,7 @@ use harms::HARMS;
 use harms::damaged;
 use lengths::LENGTHS;
 use models::OrderType;
-use script::Desk;
+use script::OwnDesk;
 use script::FILLS;
 use script::Quotes;
 use script::SHOWN;
@@ -34,7 +34,7 @@ fn order_of(k: u64) -> OrderType {
 }
 
 // On a copy with damage k: the three quotes, depth, and an order or a cancel.
-fn attempt(whole: Desk, k: u64) {
+fn attempt(whole: OwnDesk, k: u64) {
     let d = damaged(whole, k);
     tell_quotes(script::quoted(d));
     kept::depth(d, SHOWN);
@@ -42,14 +42,14 @@ fn attempt(whole: Desk, k: u64) {
 }
 
 // Asks of 5 and 3 at 105 and a bid of 4 at 100.
-fn three() -> Desk {
+fn three() -> OwnDesk {
     let first = kept::order(script::fresh(), FILLS, script::ask(1, 5, 105));
     let second = kept::order(first, FILLS, script::ask(2, 3, 105));
     kept::order(second, FILLS, script::bid(3, 4, 100))
 }
 
 // Trial k: the damages, then the lengths.
-fn trial(d: Desk, k: u64) {
+fn trial(d: OwnDesk, k: u64) {
     if k < HARMS {
         attempt(d, k);
     } else {

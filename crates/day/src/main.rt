@@ -17,7 +17,7 @@ use models::OrderType;
 use models::Statistics;
 use models::Trade;
 use models::rows;
-use script::Desk;
+use script::OwnDesk;
 use script::Quotes;
 use tell::line;
 use tell::number;
@@ -48,7 +48,7 @@ fn tell_quotes(quotes: Quotes) {
 }
 
 // Where the book and the statistics stand after an order; D1 and D2 look at depth instead.
-fn stand(d: Desk, list: u64) {
+fn stand(d: OwnDesk, list: u64) {
     match list {
         1 | 2 => {}
         _ => {
@@ -90,7 +90,7 @@ fn tell_depth(deep: Deep, out: &[u64]) {
 }
 
 // Depth for one level, with so long a buffer.
-fn depth(d: Desk, room: usize) {
+fn depth(d: OwnDesk, room: usize) {
     let shown = script::depth(d, room);
     let deep = shown.deep;
     let levels = shown.levels;
@@ -127,7 +127,7 @@ fn announce(list: u64, i: u64, room: usize, o: OrderType) {
 }
 
 // Row i of a list.
-fn row(d: Desk, list: u64, i: u64) -> Desk {
+fn row(d: OwnDesk, list: u64, i: u64) -> OwnDesk {
     let next = next_of(list, i);
     match next {
         Next::Fresh(on) => script::tracked(script::fresh(), on),

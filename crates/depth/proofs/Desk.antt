@@ -10,11 +10,11 @@ use Rattle.side.specs.Orders.{ordersIn}
 use Rattle.rules.specs.Rules.{Side, anyAbove, ask, bid, levels, most}
 use Rattle.models.specs.Rows.{levelRow, places}
 use Rattle.side.proofs.Stored.{row-of}
-use Rattle.ledger.specs.Desk.{Desk, deskBook, found}
+use Rattle.ledger.specs.Desk.{LedgerIn, storedBook, found}
 use Rattle.depth.specs.Sides.{Fitting, Standing}
 use Rattle.depth.proofs.Levels.{levels-count}
 
-module _ {rs bd ak se : List ℕ} {r f nb na : ℕ} (w : Desk rs bd ak se r f nb na) where
+module _ {rs bd ak se : List ℕ} {r f nb na : ℕ} (w : LedgerIn rs bd ak se r f nb na) where
   -- both sides stand: `totals_fit`, `put_levels`, `put_depth`
   pub standing-bids : Standing rs bd nb
   standing-bids = record { ladder = w .stored .mine; busy = w .busy; rows = λ x i. row-of (w .stored) x (omega arith) }
@@ -27,10 +27,10 @@ module _ {rs bd ak se : List ℕ} {r f nb na : ℕ} (w : Desk rs bd ak se r f nb
   some-place = omega (arith, w .room)
 
   -- the rule book's levels are as many as the rows
-  pub bid-count : length (levels (deskBook rs bd ak se nb na .bids)) ≡ nb
+  pub bid-count : length (levels (storedBook rs bd ak se nb na .bids)) ≡ nb
   bid-count = levels-count standing-bids bid (found se rs)
 
-  pub ask-count : length (levels (deskBook rs bd ak se nb na .asks)) ≡ na
+  pub ask-count : length (levels (storedBook rs bd ak se nb na .asks)) ≡ na
   ask-count = levels-count standing-asks ask (found se rs)
 
 -- the rows lie within storage: `first_occupied` (and `is_new_price` by `rising` of Sides)

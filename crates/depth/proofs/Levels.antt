@@ -12,7 +12,7 @@ use lib.ListN.{length, length-append}
 use borrow.Author.Tests.{eq-eqb}
 use Rattle.rules.specs.Rules.{Level, Side, ask, bid, joined, levels}
 use Rattle.rules.proofs.Loops.{joined-new}
-use Rattle.records.specs.Rows.{field, places}
+use Rattle.records.specs.Rows.{field, recordCount}
 use Rattle.arena.specs.Links.{headOf, priceOf}
 use Rattle.arena.specs.Times.{times}
 use Rattle.arena.proofs.Times.{one-self}
@@ -94,7 +94,7 @@ module _ (rs : List ℕ) (fnd : ℕ → Bool) where
 
 -- the levels of a side, read off storage: those of k rows from row i on
 abbrev pub totalsFrom : List ℕ → List ℕ → ℕ → ℕ → List Level
-totalsFrom rs lv i k = totals rs (levelsFrom (places rs) rs lv i k)
+totalsFrom rs lv i k = totals rs (levelsFrom (recordCount rs) rs lv i k)
 
 abbrev pub totalsIn : List ℕ → List ℕ → ℕ → List Level
 totalsIn rs lv n = totalsFrom rs lv 0 n

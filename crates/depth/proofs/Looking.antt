@@ -12,8 +12,8 @@ use borrow.Author.Tests.{eq-eqb, eqb-true, ltb-false, ltb-true}
 use Rattle.rules.specs.Rules as rule
 use Rattle.rules.specs.Rules.{ask, bid, either}
 use Rattle.rules.specs.Whole.{one}
-use Rattle.records.specs.Rows.{Row, field}
-use Rattle.search.specs.Seek.{at, home, lookup, sought}
+use Rattle.records.specs.Rows.{RecordAt, field}
+use Rattle.search.specs.Seek.{at, home, entryFor, sought}
 use Rattle.search.proofs.Entries.{found-at, inside-row}
 use Rattle.search.proofs.Walks.{finds, stops-is}
 use Rattle.arena.specs.Times.{times}
@@ -23,12 +23,12 @@ use Rattle.side.specs.Orders.{codes, orders}
 use Rattle.side.specs.Read.{levelsIn}
 use Rattle.side.proofs.Orders.{codes-times}
 use Rattle.side.proofs.Stored.{at-most-one}
-use Rattle.ledger.specs.Desk.{Desk, deskBook, found}
+use Rattle.ledger.specs.Desk.{LedgerIn, storedBook, found}
 
 -- what is found is a record
-pub found-row : (se : List ℕ) {rs : List ℕ} (id : ℕ) {c : ℕ} → c ≡ lookup se rs id → c ≢ 0 → Row rs c
+pub found-row : (se : List ℕ) {rs : List ℕ} (id : ℕ) {c : ℕ} → c ≡ entryFor se rs id → c ≢ 0 → RecordAt rs c
 found-row se {rs} id {c} e n =
-    let m : lookup se rs id ≢ 0 = λ z. n (e ∙ z) in
+    let m : entryFor se rs id ≢ 0 = λ z. n (e ∙ z) in
     let f = finds se rs id (length se) (home (length se) id) 0 m in
     rw (e, f .1) (⊎-elim (λ z. absurd (m (f .1 ∙ z))) (λ w. inside-row (w .0) (w .1)) (stops-is rs id (at se ((sought se rs id) .place)) (f .0)))
 
@@ -65,9 +65,9 @@ module _ (rs : List ℕ) (fnd : ℕ → Bool) (id c : ℕ) (this : (x : ℕ) →
       go true e false f k = k (later (rw (e, f)) (eqb c x) refl)
       go false e b f k = k (later (rw e) (eqb c x) refl)
 
-module _ {rs bd ak se : List ℕ} {r f nb na : ℕ} (w : Desk rs bd ak se r f nb na) (id : ℕ) {c : ℕ} (e : c ≡ lookup se rs id) where
+module _ {rs bd ak se : List ℕ} {r f nb na : ℕ} (w : LedgerIn rs bd ak se r f nb na) (id : ℕ) {c : ℕ} (e : c ≡ entryFor se rs id) where
   this-one : (x : ℕ) → found se rs x ≡ true → field rs 0 x ≡ id → x ≡ c
-  this-one x p q = sym (eqb-true (lookup se rs (field rs 0 x)) x p) ∙ (ap (lookup se rs) q ∙ sym e)
+  this-one x p q = sym (eqb-true (entryFor se rs (field rs 0 x)) x p) ∙ (ap (entryFor se rs) q ∙ sym e)
 
   abbrev bw : List Lvl
   bw = levelsIn rs bd nb
@@ -76,7 +76,7 @@ module _ {rs bd ak se : List ℕ} {r f nb na : ℕ} (w : Desk rs bd ak se r f nb
   aw = levelsIn rs ak na
 
   -- nothing is found
-  pub looked-none : c ≡ 0 → none ≡ rule.lookup id (deskBook rs bd ak se nb na .bids) (rule.lookup id (deskBook rs bd ak se nb na .asks) none)
+  pub looked-none : c ≡ 0 → none ≡ rule.lookup id (storedBook rs bd ak se nb na .bids) (rule.lookup id (storedBook rs bd ak se nb na .asks) none)
   looked-none z =
       let o = at-most-one (w .stored) c in
       let y : one (eqb c 0) ≡ 1 = rw (eq-eqb c 0 z) in
@@ -84,20 +84,20 @@ module _ {rs bd ak se : List ℕ} {r f nb na : ℕ} (w : Desk rs bd ak se r f nb
       ∙ look-none rs (found se rs) id c this-one (codes ask aw) none (omega (arith, codes-times ask c aw)))
 
   -- an order is found, on one of the sides
-  pub looked-some : c ≢ 0 → some (field rs 2 c, field rs 1 c) ≡ rule.lookup id (deskBook rs bd ak se nb na .bids) (rule.lookup id (deskBook rs bd ak se nb na .asks) none)
+  pub looked-some : c ≢ 0 → some (field rs 2 c, field rs 1 c) ≡ rule.lookup id (storedBook rs bd ak se nb na .bids) (rule.lookup id (storedBook rs bd ak se nb na .asks) none)
   looked-some n = sym (go (ltb 0 (times c (ups bw))) refl)
     where
       named : field rs 0 c ≡ id
       named = ap (field rs 0) e ∙ found-at se rs (omega (arith, w .room)) id (λ z. n (e ∙ z)) .1
 
       seen : found se rs c ≡ true
-      seen = eq-eqb (lookup se rs (field rs 0 c)) c (ap (lookup se rs) named ∙ sym e)
+      seen = eq-eqb (entryFor se rs (field rs 0 c)) c (ap (entryFor se rs) named ∙ sym e)
 
       rests : 1 ≤ times c (ups bw) + times c (ups aw)
       rests = rw e (w .held id (λ z. n (e ∙ z)))
 
       go : (t : Bool) → ltb 0 (times c (ups bw)) ≡ t
-          → rule.lookup id (deskBook rs bd ak se nb na .bids) (rule.lookup id (deskBook rs bd ak se nb na .asks) none) ≡ some (field rs 2 c, field rs 1 c)
+          → rule.lookup id (storedBook rs bd ak se nb na .bids) (rule.lookup id (storedBook rs bd ak se nb na .asks) none) ≡ some (field rs 2 c, field rs 1 c)
       go true i = look-at rs (found se rs) id c this-one (codes bid bw) _ seen named (omega (arith, codes-times bid c bw, ltb-true 0 (times c (ups bw)) i))
       go false i =
           look-none rs (found se rs) id c this-one (codes bid bw) _ (omega (arith, codes-times bid c bw, ltb-false 0 (times c (ups bw)) i))

@@ -9,7 +9,7 @@ use native.Mathlib.Omega.{arith}
 use lib.Dec.{eqb}
 use lib.ListN.{length}
 use borrow.Author.Tests.{eq-eqb, eqb-false, eqb-true, ne-eqb}
-use Rattle.rules.specs.Rules.{Side, best, occupied}
+use Rattle.rules.specs.Rules.{Side, ask, best, bid, occupied}
 use Rattle.rules.specs.Whole.{one}
 use Rattle.records.specs.Rows.{field}
 use Rattle.records.proofs.Cases.{lt?}
@@ -19,15 +19,13 @@ use Rattle.arena.proofs.Times.{one-self}
 use Rattle.side.specs.Levels.{Lvl, downs, nth, ups}
 use Rattle.side.specs.Orders.{codes, orders, ordersIn}
 use Rattle.side.specs.Read.{levelsIn}
-use Rattle.side.specs.Prices.{Bracket}
+use Rattle.side.specs.Prices.{Bracket, rowInTurn}
 use Rattle.side.proofs.Leaving.{stands}
 use Rattle.side.proofs.Levels.{nth-times}
 use Rattle.side.proofs.Orders.{Tiers, codes-times, side-tiers}
 use Rattle.ledger.specs.Desk.{Busy}
-use Rattle.ledger.specs.Doors.{sideOf}
-use Rattle.ledger.proofs.Best.{busy-at}
+use Rattle.ledger.proofs.Best.{busy-at, some-of}
 use Rattle.depth.specs.Sides.{Standing}
-use Rattle.depth.specs.Answers.{turnOf}
 use Rattle.depth.proofs.Sides.{head-some, rising, some-row}
 
 -- ## the best price
@@ -54,53 +52,53 @@ module _ (rs : List ℕ) (fnd : ℕ → Bool) where
   best-down (w ∷ v ∷ ws) (suc k) b t h = best-left (nth (v ∷ ws) k .price) (downs (v ∷ ws)) (w .queue) (best-down (v ∷ ws) k (b .1) (t .2) (omega arith))
 
 -- the price of the first row of those left that has a queue
-abbrev pub firstFrom : Bool → List ℕ → ℕ → ℕ → Option ℕ
-firstFrom b lv n zero = none
-firstFrom b lv n (suc k) = cond (eqb (headOf lv (turnOf b n (suc k))) 0) (firstFrom b lv n k) (some (priceOf lv (turnOf b n (suc k))))
+abbrev pub firstFrom : Side → List ℕ → ℕ → ℕ → Option ℕ
+firstFrom sd lv n zero = none
+firstFrom sd lv n (suc k) = cond (eqb (headOf lv (rowInTurn sd n (suc k))) 0) (firstFrom sd lv n k) (some (priceOf lv (rowInTurn sd n (suc k))))
 
-pub first-on : (b : Bool) (lv : List ℕ) (n left : ℕ) → 0 < left → headOf lv (turnOf b n left) ≡ 0 → firstFrom b lv n (left - 1) ≡ firstFrom b lv n left
-first-on b lv n zero h e = absurd (let z : ⊥ = omega arith in z)
-first-on b lv n (suc k) h e = let z : suc k - 1 ≡ k = omega arith in rw (z, eq-eqb _ _ e)
+pub first-on : (sd : Side) (lv : List ℕ) (n left : ℕ) → 0 < left → headOf lv (rowInTurn sd n left) ≡ 0 → firstFrom sd lv n (left - 1) ≡ firstFrom sd lv n left
+first-on sd lv n zero h e = absurd (let z : ⊥ = omega arith in z)
+first-on sd lv n (suc k) h e = let z : suc k - 1 ≡ k = omega arith in rw (z, eq-eqb _ _ e)
 
-pub first-here : (b : Bool) (lv : List ℕ) (n left : ℕ) → 0 < left → headOf lv (turnOf b n left) ≢ 0 → firstFrom b lv n left ≡ some (priceOf lv (turnOf b n left))
-first-here b lv n zero h e = absurd (let z : ⊥ = omega arith in z)
-first-here b lv n (suc k) h e = rw (ne-eqb _ _ e)
+pub first-here : (sd : Side) (lv : List ℕ) (n left : ℕ) → 0 < left → headOf lv (rowInTurn sd n left) ≢ 0 → firstFrom sd lv n left ≡ some (priceOf lv (rowInTurn sd n left))
+first-here sd lv n zero h e = absurd (let z : ⊥ = omega arith in z)
+first-here sd lv n (suc k) h e = rw (ne-eqb _ _ e)
 
-pub first-best : {rs lv : List ℕ} {n : ℕ} (b : Bool) (fnd : ℕ → Bool) → Standing rs lv n → firstFrom b lv n n ≡ best (ordersIn (sideOf b) rs fnd lv n)
-first-best {rs} {lv} {n} b fnd s = go b n refl
+pub first-best : {rs lv : List ℕ} {n : ℕ} (sd : Side) (fnd : ℕ → Bool) → Standing rs lv n → firstFrom sd lv n n ≡ best (ordersIn sd rs fnd lv n)
+first-best {rs} {lv} {n} sd fnd s = go sd n refl
   where
     at : (i m : ℕ) → i < n → m ≡ i → some (priceOf lv m) ≡ some (nth (levelsIn rs lv n) i .price)
     at i m h e = ap (λ (k : ℕ). some (priceOf lv k)) e ∙ ap some (s .ladder .level i h .price)
 
-    go : (b : Bool) (m : ℕ) → n ≡ m → firstFrom b lv n n ≡ best (ordersIn (sideOf b) rs fnd lv n)
-    go true zero e = rw e
-    go false zero e = rw e
-    go true (suc k) e =
-        first-here true lv n n (omega arith) (head-some s (n - n) (omega arith))
+    go : (sd : Side) (m : ℕ) → n ≡ m → firstFrom sd lv n n ≡ best (ordersIn sd rs fnd lv n)
+    go ask zero e = rw e
+    go bid zero e = rw e
+    go ask (suc k) e =
+        first-here ask lv n n (omega arith) (head-some s (n - n) (omega arith))
         ∙ (at 0 (n - n) (omega arith) (omega arith) ∙ sym (best-up rs fnd (levelsIn rs lv n) (s .busy) (side-tiers (s .ladder)) (omega (arith, s .ladder .count))))
-    go false (suc k) e =
-        first-here false lv n n (omega arith) (head-some s (n - 1) (omega arith))
+    go bid (suc k) e =
+        first-here bid lv n n (omega arith) (head-some s (n - 1) (omega arith))
         ∙ (at k (n - 1) (omega arith) (omega arith) ∙ sym (best-down rs fnd (levelsIn rs lv n) k (s .busy) (side-tiers (s .ladder)) (omega (arith, s .ladder .count))))
 
 -- the walk over the rows, with `left` of them to come
-pub record Walked (b : Bool) (lv : List ℕ) (n left : ℕ) : Type 0 where
+pub record Walked (sd : Side) (lv : List ℕ) (n left : ℕ) : Type 0 where
   pub within : left ≤ n
-  pub same : firstFrom b lv n left ≡ firstFrom b lv n n
+  pub same : firstFrom sd lv n left ≡ firstFrom sd lv n n
 
-pub walk-start : (b : Bool) (lv : List ℕ) (n : ℕ) → Walked b lv n n
-walk-start b lv n = record { within = omega arith; same = refl }
+pub walk-start : (sd : Side) (lv : List ℕ) (n : ℕ) → Walked sd lv n n
+walk-start sd lv n = record { within = omega arith; same = refl }
 
-module _ {b : Bool} {lv : List ℕ} {n left : ℕ} (w : Walked b lv n left) where
+module _ {sd : Side} {lv : List ℕ} {n left : ℕ} (w : Walked sd lv n left) where
   -- row r is the next
-  module _ {r : ℕ} (h : 0 < left) (e : r ≡ turnOf b n left) where
-    pub walk-again : headOf lv r ≡ 0 → Walked b lv n (left - 1)
-    walk-again z = record { within = omega (arith, w .within); same = first-on b lv n left h (rw e at z) ∙ w .same }
+  module _ {r : ℕ} (h : 0 < left) (e : r ≡ rowInTurn sd n left) where
+    pub walk-again : headOf lv r ≡ 0 → Walked sd lv n (left - 1)
+    walk-again z = record { within = omega (arith, w .within); same = first-on sd lv n left h (rw e at z) ∙ w .same }
 
-    pub walk-present : headOf lv r ≢ 0 → (rs : List ℕ) (fnd : ℕ → Bool) → Standing rs lv n → some (priceOf lv r) ≡ best (ordersIn (sideOf b) rs fnd lv n)
-    walk-present z rs fnd s = rw e (sym (first-here b lv n left h (rw e at z)) ∙ (w .same ∙ first-best b fnd s))
+    pub walk-present : headOf lv r ≢ 0 → (rs : List ℕ) (fnd : ℕ → Bool) → Standing rs lv n → some (priceOf lv r) ≡ best (ordersIn sd rs fnd lv n)
+    walk-present z rs fnd s = rw e (sym (first-here sd lv n left h (rw e at z)) ∙ (w .same ∙ first-best sd fnd s))
 
-  pub walk-absent : left ≡ 0 → (rs : List ℕ) (fnd : ℕ → Bool) → Standing rs lv n → none ≡ best (ordersIn (sideOf b) rs fnd lv n)
-  walk-absent z rs fnd s = (rw z at (w .same)) ∙ first-best b fnd s
+  pub walk-absent : left ≡ 0 → (rs : List ℕ) (fnd : ℕ → Bool) → Standing rs lv n → none ≡ best (ordersIn sd rs fnd lv n)
+  walk-absent z rs fnd s = (rw z at (w .same)) ∙ first-best sd fnd s
 
 -- ## a price that is new to the side
 module _ (rs : List ℕ) (fnd : ℕ → Bool) (p : ℕ) where
@@ -123,10 +121,6 @@ module _ (rs : List ℕ) (fnd : ℕ → Bool) (p : ℕ) where
   occupied-none (c ∷ l) h = rw (ne-eqb p (field rs 2 c) (h c (omega (arith, one-self c))), occupied-none l (λ x i. h x (omega arith)))
 
 module _ {rs lv : List ℕ} {n : ℕ} (s : Standing rs lv n) (sd : Side) (fnd : ℕ → Bool) (p : ℕ) where
-  some-of : (l : List ℕ) → 1 ≤ length l → (x : ℕ) × (1 ≤ times x l)
-  some-of [] h = absurd (let z : ⊥ = omega arith in z)
-  some-of (x ∷ l) h = (x, omega (arith, one-self x))
-
   -- a row has it
   pub occupied-row : (i : ℕ) → i < n → priceOf lv i ≡ p → occupied p (ordersIn sd rs fnd lv n) ≡ true
   occupied-row i h e =

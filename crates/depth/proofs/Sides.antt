@@ -5,7 +5,7 @@ use mathlib.Core.Logic.{_≢_}
 use mathlib.Core.Path.{ap, _∙_, _≡_}
 use native.Mathlib.Omega.{arith}
 use lib.ListN.{length}
-use Rattle.records.specs.Rows.{Row, places}
+use Rattle.records.specs.Rows.{RecordAt, recordCount}
 use Rattle.arena.specs.Links.{headOf, link, tailOf}
 use Rattle.arena.specs.Ring.{Run}
 use Rattle.arena.specs.Times.{times}
@@ -16,7 +16,7 @@ use Rattle.side.specs.Prices.{Rising}
 use Rattle.side.proofs.Levels.{nth-times}
 use Rattle.side.proofs.Own.{from-nth}
 use Rattle.ledger.proofs.Best.{busy-at}
-use Rattle.depth.specs.Sides.{Queue, Standing, queueIn}
+use Rattle.depth.specs.Sides.{QueueIn, Standing, queueIn}
 use Rattle.depth.proofs.Queues.{ring-ends}
 
 module _ {rs lv : List ℕ} {n : ℕ} (s : Standing rs lv n) where
@@ -29,13 +29,13 @@ module _ {rs lv : List ℕ} {n : ℕ} (s : Standing rs lv n) where
   row-queue : (i : ℕ) → i < n → nth ws i .queue ≡ queueIn rs (headOf lv i)
   row-queue i h =
       let e : 0 + i ≡ i = omega arith in
-      ap (λ (w : Lvl). w .queue) (from-nth (places rs) rs lv 0 n i h) ∙ ap (λ (k : ℕ). queueIn rs (headOf lv k)) e
+      ap (λ (w : Lvl). w .queue) (from-nth (recordCount rs) rs lv 0 n i h) ∙ ap (λ (k : ℕ). queueIn rs (headOf lv k)) e
 
-  row-rows : (i : ℕ) → i < n → (x : ℕ) → 1 ≤ times x (nth ws i .queue) → Row rs x
+  row-rows : (i : ℕ) → i < n → (x : ℕ) → 1 ≤ times x (nth ws i .queue) → RecordAt rs x
   row-rows i h x j = s .rows x (omega (arith, nth-times x ws i (some-row i h)))
 
   -- the queue of row i
-  pub queue-at : (i : ℕ) → i < n → Queue rs (headOf lv i)
+  pub queue-at : (i : ℕ) → i < n → QueueIn rs (headOf lv i)
   queue-at i h =
       let e = row-queue i h in
       let v = s .ladder .level i h in
@@ -48,7 +48,7 @@ module _ {rs lv : List ℕ} {n : ℕ} (s : Standing rs lv n) where
   pub head-some : (i : ℕ) → i < n → headOf lv i ≢ 0
   head-some i h = go (nth ws i .queue) (busy-at ws i (s .busy) (some-row i h)) (s .ladder .level i h .ring) (row-rows i h)
     where
-      go : (q : List ℕ) → 1 ≤ length q → Run (link rs 3 (headOf lv i)) (link rs 4 (tailOf lv i)) 0 q 0 → ((x : ℕ) → 1 ≤ times x q → Row rs x) → headOf lv i ≢ 0
+      go : (q : List ℕ) → 1 ≤ length q → Run (link rs 3 (headOf lv i)) (link rs 4 (tailOf lv i)) 0 q 0 → ((x : ℕ) → 1 ≤ times x q → RecordAt rs x) → headOf lv i ≢ 0
       go [] o r k = absurd (let z : ⊥ = omega arith in z)
       go (x ∷ q) o r k = λ z. omega (arith, k x (omega (arith, one-self x)) .some, r .0)
 

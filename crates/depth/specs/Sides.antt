@@ -5,7 +5,7 @@ use mathlib.Core.Bool.{Bool, false}
 use mathlib.Core.List.{List, [], reverse, _∷_}
 use mathlib.Core.Path.{_≡_}
 use Rattle.rules.specs.Rules.{Level, Side, anyAbove, ask, bid, levels, most}
-use Rattle.records.specs.Rows.{Row, field, places}
+use Rattle.records.specs.Rows.{RecordAt, field, recordCount}
 use Rattle.arena.specs.Free.{Chain, chain}
 use Rattle.arena.specs.Times.{times}
 use Rattle.side.specs.Levels.{Ladder, ups}
@@ -17,7 +17,7 @@ use Rattle.ledger.specs.Desk.{Busy}
 pub record Standing (rs lv : List ℕ) (n : ℕ) : Type 0 where
   pub ladder : Ladder rs lv n (levelsIn rs lv n)
   pub busy : Busy (levelsIn rs lv n)
-  pub rows : (x : ℕ) → 1 ≤ times x (ups (levelsIn rs lv n)) → Row rs x
+  pub rows : (x : ℕ) → 1 ≤ times x (ups (levelsIn rs lv n)) → RecordAt rs x
 
 -- ## Its levels
 
@@ -36,12 +36,12 @@ pub record Fitting (rs lv : List ℕ) (n : ℕ) : Type 0 where
 
 -- its codes, from h on
 abbrev pub queueIn : List ℕ → ℕ → List ℕ
-queueIn rs h = chain (places rs) rs h
+queueIn rs h = chain (recordCount rs) rs h
 
 -- it ends, and each of its orders is a record
-pub record Queue (rs : List ℕ) (h : ℕ) : Type 0 where
+pub record QueueIn (rs : List ℕ) (h : ℕ) : Type 0 where
   pub ends : Chain rs h (queueIn rs h)
-  pub rows : (x : ℕ) → 1 ≤ times x (queueIn rs h) → Row rs x
+  pub rows : (x : ℕ) → 1 ≤ times x (queueIn rs h) → RecordAt rs x
 
 -- the quantities of the orders at these codes
 abbrev pub quantities : List ℕ → List ℕ → ℕ

@@ -10,15 +10,16 @@ ghost use Rattle.rules.specs.Rules as rule;
 ghost use Rattle.models.specs.Rows.{levelRow, written};
 ghost use Rattle.models.specs.Sums.{capped};
 ghost use Rattle.side.specs.Prices.{Rising};
-ghost use Rattle.ledger.specs.Doors.{sideOf};
-ghost use Rattle.depth.specs.Sides.{Standing, ascending, Fitting, queueIn, Queue, quantities};
-ghost use Rattle.depth.specs.Answers.{quoteOf, turnOf, Looks};
+ghost use Rattle.models.specs.Readings.{sideOf};
+ghost use Rattle.depth.specs.Sides.{Standing, ascending, Fitting, queueIn, QueueIn, quantities};
+ghost use Rattle.depth.specs.Answers.{quoteOf, Looks};
 use arena::HEAD;
 use arena::ROW;
 use models::BookLevel;
 use models::Id;
 use models::Price;
 use models::Quantity;
+use models::Side;
 use models::rows::put_level;
 use models::sums::Sum;
 use models::sums::exact;
@@ -27,6 +28,7 @@ use records::NEXT;
 use records::PRICE;
 use records::QUANTITY;
 use records::load;
+use side::visit;
 
 // A level is two numbers of the lent buffer.
 const LEVEL: usize = 2;
@@ -49,26 +51,15 @@ pub struct Lookup {
     pub count: usize,
 }
 
-// Of n rows the one to look at when `left` are left.
-fn turn(n: usize, left: usize, ask: bool) -> usize
-    requires { ⌜ (1 ≤ left) × (left ≤ n) ⌝ }
-    ensures { λ r. ⌜ (r ≡ turnOf ask n left) × (r < n) ⌝ }
-{
-    if ask {
-        return n - left;
-    }
-    left - 1
-}
-
 // The best price of a side: that of the first row whose queue is not empty.
-pub fn first_occupied(levels: &[u64], n: usize, ask: bool) -> Quote
+pub fn first_occupied(levels: &[u64], n: usize, side: Side) -> Quote
     requires { ⌜ n * 3 ≤ length (now levels) ⌝ }
     ensures { λ q. ⌜ ((rs : List ℕ) (fnd : ℕ → Bool) → Standing rs (now (levels .entry)) n
-        → quoteOf q ≡ rule.best (ordersIn (sideOf ask) rs fnd (now (levels .entry)) n)) ⌝ }
+        → quoteOf q ≡ rule.best (ordersIn (sideOf side) rs fnd (now (levels .entry)) n)) ⌝ }
 {
     let mut left = n;
     while 0 < left {
-        let at = turn(n, left, ask) * ROW;
+        let at = visit(side, n, left) * ROW;
         if levels[at + HEAD] != 0 {
             return Quote::Present(Price(levels[at]));
         }
@@ -79,7 +70,7 @@ pub fn first_occupied(levels: &[u64], n: usize, ask: bool) -> Quote
 
 // The quantities of a queue together.
 fn total(records: &[u64], head: u64) -> Sum
-    requires { ⌜ Queue (now records) head ⌝ }
+    requires { ⌜ QueueIn (now records) head ⌝ }
     ensures { λ r. ⌜ r ≡ capped (quantities (now (records .entry)) (queueIn (now (records .entry)) head)) ⌝ }
 {
     let mut sum = exact(0);
@@ -149,10 +140,9 @@ pub fn is_new_price(levels: &[u64], n: usize, price: Price) -> bool
     ensures { λ r. ⌜ ((rs : List ℕ) (sd : rule.Side) (fnd : ℕ → Bool) → Standing rs (now (levels .entry)) n
         → r ≡ not (rule.occupied (price .0) (ordersIn sd rs fnd (now (levels .entry)) n))) ⌝ }
 {
-    let p = price.0;
-    let k = side::find_row(levels, n, p);
+    let k = side::find_row(levels, n, price);
     if k < n {
-        return levels[k * ROW] != p;
+        return levels[k * ROW] != price.0;
     }
     true
 }

@@ -16,10 +16,10 @@ use Rattle.models.specs.Readings.{sideOf, statisticsOf}
 use Rattle.models.specs.Rows.{fillRow}
 use Rattle.models.proofs.Places.{written-none, fill-faithful}
 use Rattle.side.proofs.Stored.{swapped}
-use Rattle.side.specs.Read.{levelsIn}
 use Rattle.ledger.specs.declared.OrderBook.{OrderBook}
-use Rattle.ledger.specs.Desk.{Desk, Leaves, deskBook, found}
-use Rattle.ledger.specs.Doors.{ApartAt}
+use Rattle.ledger.specs.Stock.{Stock}
+use Rattle.ledger.specs.Desk.{LeavesAs, Tidy, found, readBook, storedBook}
+use Rattle.ledger.specs.Doors.{ApartIn}
 use Rattle.ledger.proofs.Apart.{apart-at}
 use Rattle.depth.specs.Sides.{Standing}
 use Rattle.depth.proofs.Levels.{levels-count}
@@ -32,15 +32,15 @@ use Rattle.survey.specs.Taker.{takerOf, metSide}
 use Rattle.survey.proofs.Able.{can-match}
 use Rattle.whole.specs.Whole.{Lengths}
 use Rattle.desk.specs.declared.Answer.the-variants.{Done}
-use Rattle.desk.specs.Stock.{Stock, Sound, bookIn, deskIn}
+use Rattle.desk.specs.Stock.{Sound, readDesk}
 use Rattle.desk.specs.Performs.{Performs, carried}
 use Rattle.desk.specs.Steps.{Matchable, Foretells, noRow, Held, Withdraws}
 
 pub sound-matchable : {z : rule.Size} {k : Stock} → Sound z k → Matchable (k .book) (k .records) (k .bids) (k .asks)
 sound-matchable {z} {k} w =
     record {
-      bids = can-match (w .desk .stored) rule.bid (found (k .search) (k .records)) (w .orderly .orderly .positive rule.bid);
-      asks = can-match (swapped (w .desk .stored)) rule.ask (found (k .search) (k .records)) (w .orderly .orderly .positive rule.ask);
+      bids = can-match (w .tidy .stored) rule.bid (found (k .search) (k .records)) (w .orderly .orderly .positive rule.bid);
+      asks = can-match (swapped (w .tidy .stored)) rule.ask (found (k .search) (k .records)) (w .orderly .orderly .positive rule.ask);
     }
 
 -- the makers' side, by the side of the order
@@ -50,14 +50,14 @@ module _ (t : Taker) (b : OrderBook) (rs bd ak : List ℕ) {s : Outlook} where
       h room (found se rs)
       ∙ ap (λ (l : List (rule.Order (Unit {0}))). surveyed (rule.outcome (takerOf room t) l))
       (ap (λ (v : Side). ordersIn (rule.opposite (sideOf v)) rs (found se rs) ak (b .asks)) e
-      ∙ sym (ap (λ (v : Side). rule.own (rule.opposite (sideOf v)) (deskBook rs bd ak se (b .bids) (b .asks))) e))
+      ∙ sym (ap (λ (v : Side). rule.own (rule.opposite (sideOf v)) (storedBook rs bd ak se (b .bids) (b .asks))) e))
 
   pub foretells-ask : t .side ≡ Ask → ((room : ℕ) (fnd : ℕ → Bool) → s ≡ surveyed (rule.outcome (takerOf room t) (ordersIn (metSide t) rs fnd bd (b .bids)))) → Foretells t b rs bd ak s
   foretells-ask e h room se =
       h room (found se rs)
       ∙ ap (λ (l : List (rule.Order (Unit {0}))). surveyed (rule.outcome (takerOf room t) l))
       (ap (λ (v : Side). ordersIn (rule.opposite (sideOf v)) rs (found se rs) bd (b .bids)) e
-      ∙ sym (ap (λ (v : Side). rule.own (rule.opposite (sideOf v)) (deskBook rs bd ak se (b .bids) (b .asks))) e))
+      ∙ sym (ap (λ (v : Side). rule.own (rule.opposite (sideOf v)) (storedBook rs bd ak se (b .bids) (b .asks))) e))
 
 -- ## a price without a row
 
@@ -76,26 +76,18 @@ lengths-stay a b c d l = record { some = l .some; records = a ∙ l .records; bi
 
 -- ## a cancel
 
-pub cancel-asks : {k : Stock} → Held k → Desk (k .records) (k .bids) (k .asks) (k .search) (k .book .resting) (k .book .free) (k .book .bids) (k .book .asks)
-    × ApartAt (k .records) (levelsIn (k .records) (k .bids) (k .book .bids)) (levelsIn (k .records) (k .asks) (k .book .asks))
+pub cancel-asks : {k : Stock} → Held k → Tidy k × ApartIn k
 cancel-asks {k} h =
-    (h .sound .desk, apart-at (k .records) (k .bids) (k .asks) (k .search) (k .book .bids) (k .book .asks) (h .sound .orderly .orderly))
+    (h .sound .tidy, apart-at (k .records) (k .bids) (k .asks) (k .search) (k .book .bids) (k .book .asks) (h .sound .orderly .orderly))
 
-module _ (id : Id) (b : OrderBook) (rs bd ak se : List ℕ) (b′ : OrderBook) (rs′ bd′ ak′ se′ : List ℕ)
-    (r : length rs′ ≡ length rs) (d : length bd′ ≡ length bd) (a : length ak′ ≡ length ak) (s : length se′ ≡ length se)
-    (l : Leaves (rule.only (rule.stays (id .0)) (deskBook rs bd ak se (b .bids) (b .asks))) rs′ bd′ ak′ se′ (b′ .resting) (b′ .free) (b′ .bids) (b′ .asks)) where
-  abbrev k : Stock
-  k = record { book = b; records = rs; bids = bd; asks = ak; search = se }
-
-  abbrev k′ : Stock
-  k′ = record { book = b′; records = rs′; bids = bd′; asks = ak′; search = se′ }
-
+module _ (id : Id) (k k′ : Stock) (r : length (k′ .records) ≡ length (k .records)) (d : length (k′ .bids) ≡ length (k .bids))
+    (a : length (k′ .asks) ≡ length (k .asks)) (s : length (k′ .search) ≡ length (k .search)) (l : LeavesAs (rule.only (rule.stays (id .0)) (readBook k)) k′) where
   pub withdrawn : Withdraws id k k′
   unfolding rule.perform
   withdrawn = record { performs = performs }
     where
       performs : (z : rule.Size) (st : Statistics) (out : List ℕ) → Sound z k → Performs (Sound z) z (rule.cancel (id .0)) k st out (Done (Canceled id)) k′ st out
       performs z st out w =
-          let whole : WholeBook z (bookIn k′) = subst (WholeBook z) (sym (l .book)) (whole-book-after z (deskIn k st) (rule.cancel (id .0)) (w .orderly)) in
-          carried (Canceled id) [] refl refl (λ i. record { book = (l .book) i; stats = statisticsOf st })
-          (record { lengths = lengths-stay r d a s (w .lengths); desk = l .desk; orderly = whole }) (sym (written-none fillRow (fill-faithful .long) out 0))
+          let whole : WholeBook z (readBook k′) = subst (WholeBook z) (sym (l .book)) (whole-book-after z (readDesk k st) (rule.cancel (id .0)) (w .orderly)) in
+          carried (rule.canceled (id .0)) [] refl refl (λ i. record { book = (l .book) i; stats = statisticsOf st })
+          (record { lengths = lengths-stay r d a s (w .lengths); tidy = l .desk; orderly = whole }) (sym (written-none fillRow (fill-faithful .long) out 0))

@@ -15,23 +15,23 @@ use Rattle.ledger.specs.Doors.{restIn}
 use Rattle.survey.specs.declared.Taker.{Taker}
 use Rattle.survey.specs.declared.Outlook.{Outlook}
 use Rattle.survey.specs.Taker.{takerOf, kindOf}
-use Rattle.order.specs.Decided.{numberOf, remains, passes, decided}
+use Rattle.order.specs.Decided.{refusalNumber, remains, passes, decided}
 
 -- ## refused or not
 
-pub number-some : (o : Option ℕ) (n : ℕ) → n ≡ numberOf o → (n ≡ 0 → ⊥) → o ≡ some n
+pub number-some : (o : Option ℕ) (n : ℕ) → n ≡ refusalNumber o → (n ≡ 0 → ⊥) → o ≡ some n
 number-some none n e h = absurd (h e)
 number-some (some m) n e h = rw e
 
 -- a decision that gives no number refuses nothing
-pub decided-none : (places : ℕ) (t : Taker) (s : Outlook) (st : Statistics) (r f c : Bool) → numberOf (decided places t s st r f c) ≡ 0 → decided places t s st r f c ≡ none
+pub decided-none : (places : ℕ) (t : Taker) (s : Outlook) (st : Statistics) (r f c : Bool) → refusalNumber (decided places t s st r f c) ≡ 0 → decided places t s st r f c ≡ none
 unfolding decided firstOf
 decided-none places t s st r f c = go (ltb places (s .fills)) (passes t s st) (r && f) (r && c)
   where
-    two : (n : ℕ) → numberOf (some (suc n)) ≡ 0 → some (suc n) ≡ none
+    two : (n : ℕ) → refusalNumber (some (suc n)) ≡ 0 → some (suc n) ≡ none
     two n e = absurd (let x : ⊥ = omega arith in x)
 
-    go : (a b d e : Bool) → numberOf (firstOf ((2, a) ∷ (3, b) ∷ (4, d) ∷ (5, e) ∷ [])) ≡ 0 → firstOf ((2, a) ∷ (3, b) ∷ (4, d) ∷ (5, e) ∷ []) ≡ none
+    go : (a b d e : Bool) → refusalNumber (firstOf ((2, a) ∷ (3, b) ∷ (4, d) ∷ (5, e) ∷ [])) ≡ 0 → firstOf ((2, a) ∷ (3, b) ∷ (4, d) ∷ (5, e) ∷ []) ≡ none
     go true b d e h = two 1 h
     go false true d e h = two 2 h
     go false false true e h = two 3 h

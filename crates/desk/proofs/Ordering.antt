@@ -19,13 +19,14 @@ use Rattle.models.specs.declared.OrderEvent.{OrderEvent}
 use Rattle.models.specs.declared.Statistics.{Statistics}
 use Rattle.models.specs.declared.stats.Totals.{Totals}
 use Rattle.models.specs.Readings.{eventOf, sideOf, statisticsOf}
-use Rattle.models.specs.Rows.{fillRow, places as placesIn}
+use Rattle.models.specs.Rows.{fillRow, places}
 use Rattle.models.specs.Statistics.{VolumeFits, totalsOf}
 use Rattle.models.proofs.Recording.{volume-fits, traded-after}
-use Rattle.records.specs.Rows.{places}
+use Rattle.records.specs.Rows.{recordCount}
 use Rattle.ledger.specs.declared.OrderBook.{OrderBook}
-use Rattle.ledger.specs.Desk.{Desk, Leaves, deskBook, found}
-use Rattle.ledger.specs.Doors.{RoomOn, restIn, sideOf as flag}
+use Rattle.ledger.specs.Stock.{Stock}
+use Rattle.ledger.specs.Desk.{LeavesAs, Tidy, found, readBook, storedBook}
+use Rattle.ledger.specs.Doors.{RoomOn, restIn}
 use Rattle.whole.specs.Whole.{Lengths}
 use Rattle.whole.proofs.Desk.{desk-resting, open-place, desk-room}
 use Rattle.depth.proofs.Desk.{standing-bids, standing-asks}
@@ -33,16 +34,15 @@ use Rattle.survey.specs.declared.Taker.{Taker}
 use Rattle.survey.specs.declared.Outlook.{Outlook}
 use Rattle.survey.specs.Surveyed.{surveyed}
 use Rattle.survey.specs.Taker.{takerOf, metSide}
-use Rattle.trade.specs.declared.Traded.{Traded}
-use Rattle.trade.specs.Trade as deal
-use Rattle.trade.specs.Trade.{CanTrade, Trades}
-use Rattle.order.specs.Decided.{numberOf, filled, remains, totalsBy, passes, decided, eventBy}
+use Rattle.matching.specs.declared.Last.{Last}
+use Rattle.trade.specs.Trade.{CanTrade, Trades, afterTrade}
+use Rattle.order.specs.Decided.{refusalNumber, filled, remains, totalsBy, passes, decided, eventBy}
 use Rattle.order.proofs.Judging.{left-within, totals-are, passes-is, event-is, refusal-is}
 use Rattle.desk.specs.declared.Answer.the-variants.{Refused, Done}
-use Rattle.desk.specs.Stock.{Stock, Sound, bookIn, deskIn}
+use Rattle.desk.specs.Stock.{Sound, readDesk}
 use Rattle.desk.specs.Performs as perf
 use Rattle.desk.specs.Performs.{Performs}
-use Rattle.desk.specs.Steps.{Foretells, isAsk, noRow, Crowds, CrowdsOn, CanSettle, Settles, Accepted, Carries}
+use Rattle.desk.specs.Steps.{Foretells, noRow, Crowds, CrowdsOn, CanSettle, Settles, Accepted, Fulfils}
 use Rattle.desk.proofs.Asking.{lengths-stay}
 use Rattle.desk.proofs.Carrying.{number-some, decided-none, performs-refused, performs-carried, traded, carried-rests, carried-lapses}
 
@@ -51,33 +51,20 @@ use Rattle.desk.proofs.Carrying.{number-some, decided-none, performs-re
 module _ (most : ℕ) (t : Taker) (b : OrderBook) (bd ak : List ℕ) {r : Bool} where
   pub crowds-bid : t .side ≡ Bid → Crowds most (t .limit .0) bd (b .bids) r → CrowdsOn most t b bd ak r
   crowds-bid e h rs se x y =
-      h rs rule.bid (found se rs) x ∙ sym (ap (λ (v : Side). noRow most (t .limit .0) (own (sideOf v) (deskBook rs bd ak se (b .bids) (b .asks)))) e)
+      h rs rule.bid (found se rs) x ∙ sym (ap (λ (v : Side). noRow most (t .limit .0) (own (sideOf v) (storedBook rs bd ak se (b .bids) (b .asks)))) e)
 
   pub crowds-ask : t .side ≡ Ask → Crowds most (t .limit .0) ak (b .asks) r → CrowdsOn most t b bd ak r
   crowds-ask e h rs se x y =
-      h rs rule.ask (found se rs) y ∙ sym (ap (λ (v : Side). noRow most (t .limit .0) (own (sideOf v) (deskBook rs bd ak se (b .bids) (b .asks)))) e)
+      h rs rule.ask (found se rs) y ∙ sym (ap (λ (v : Side). noRow most (t .limit .0) (own (sideOf v) (storedBook rs bd ak se (b .bids) (b .asks)))) e)
 
 -- ## the remainder
 
-flag-is : (s : Side) → flag (isAsk s) ≡ sideOf s
-flag-is Bid = refl
-flag-is Ask = refl
-
--- what a new price asks, for the answer of `is_ask`
-pub room-on : (t : Taker) (b : OrderBook) (bd ak : List ℕ) {ask : Bool} → ask ≡ isAsk (t .side) → RoomOn (isAsk (t .side)) bd ak (b .bids) (b .asks) (t .limit .0) → RoomOn ask bd ak (b .bids) (b .asks) (t .limit .0)
-room-on t b bd ak e h = subst (λ (a : Bool). RoomOn a bd ak (b .bids) (b .asks) (t .limit .0)) (sym e) h
-
-module _ (rests : Bool) (t : Taker) (left : ℕ) (b : OrderBook) (rs bd ak se : List ℕ) where
-  pub settle-idle : rests ≡ false → Desk rs bd ak se (b .resting) (b .free) (b .bids) (b .asks) → Settles rests t left (deskBook rs bd ak se (b .bids) (b .asks)) b rs bd ak se
+module _ (rests : Bool) (t : Taker) (left : ℕ) (k : Stock) where
+  pub settle-idle : rests ≡ false → Tidy k → Settles rests t left (readBook k) k
   settle-idle e d = record { stands = λ f. absurd (not-both rests f e); lapses = λ _. record { desk = d; book = refl } }
 
-  pub settle-rests : {b′ : OrderBook} {rs′ bd′ ak′ se′ : List ℕ} {ask : Bool} → rests ≡ true → ask ≡ isAsk (t .side)
-      → Leaves (restIn (flag ask) (t .id .0) left (t .limit .0) (deskBook rs bd ak se (b .bids) (b .asks))) rs′ bd′ ak′ se′ (b′ .resting) (b′ .free) (b′ .bids) (b′ .asks)
-      → Settles rests t left (deskBook rs bd ak se (b .bids) (b .asks)) b′ rs′ bd′ ak′ se′
-  settle-rests {b′} {rs′} {bd′} {ak′} {se′} {ask} e f l = record {
-    stands = λ _. subst (λ (v : rule.Side). Leaves (restIn v (t .id .0) left (t .limit .0) (deskBook rs bd ak se (b .bids) (b .asks))) rs′ bd′ ak′ se′ (b′ .resting) (b′ .free) (b′ .bids) (b′ .asks)) (ap flag f ∙ flag-is (t .side)) l;
-    lapses = λ g. absurd (not-both rests e g);
-  }
+  pub settle-rests : {k′ : Stock} → rests ≡ true → LeavesAs (restIn (sideOf (t .side)) (t .id .0) left (t .limit .0) (readBook k)) k′ → Settles rests t left (readBook k) k′
+  settle-rests e l = record { stands = λ _. l; lapses = λ g. absurd (not-both rests e g) }
 
 -- ## what no refusal says
 
@@ -120,13 +107,13 @@ book-other rule.ask l k = refl
 
 module _ {t : Taker} {s : Outlook} {rests : Bool} {k : Stock} {st : Statistics} {out : List ℕ} (x : Accepted t s rests k st out) where
   abbrev n : ℕ
-  n = placesIn fillRow out
+  n = places fillRow out
 
   abbrev u : rule.Taker (Unit {0})
   u = takerOf n t
 
   abbrev makers : List (Order (Unit {0}))
-  makers = own (opposite (sideOf (t .side))) (bookIn k)
+  makers = own (opposite (sideOf (t .side))) (readBook k)
 
   abbrev o : Outcome (Unit {0})
   o = outcome u makers
@@ -143,9 +130,9 @@ module _ {t : Taker} {s : Outlook} {rests : Bool} {k : Stock} {st : Statistics} 
   told : (room : ℕ) → s ≡ surveyed (outcome (takerOf room t) makers)
   told room = x .foretold room (k .search)
 
-  pub trade-asks : CanTrade t (s .used) (k .records) (k .bids) (k .asks) (k .search) out (k .book)
+  pub trade-asks : CanTrade t (s .used) k out
   trade-asks = record {
-    desk = x .sound .desk;
+    tidy = x .sound .tidy;
     whole = x .sound .orderly .orderly;
     used = λ room. ap (λ (v : Outlook). v .used) (told room);
     room = λ room. let e : s .fills ≡ length ((outcome (takerOf room t) makers) .fills) = ap (λ (v : Outlook). v .fills) (told room) in omega (arith, tested .room);
@@ -167,56 +154,54 @@ module _ {t : Taker} {s : Outlook} {rests : Bool} {k : Stock} {st : Statistics} 
   traded-asks e = subst (λ (v : Totals). VolumeFits st (v .quantity .sum)) (sym (totals-is e)) (volume-fits st (o .fills) no-sum)
 
   -- what the trade leaves
-  module _ {rs bd ak se out′ : List ℕ} {d : Traded} (tr : Trades t (bookIn k) out rs bd ak se out′ d)
-      (lr : length rs ≡ length (k .records)) (lb : length bd ≡ length (k .bids)) (la : length ak ≡ length (k .asks)) (ls : length se ≡ length (k .search)) where
-    mid : Leaves (deal.after n t (bookIn k)) rs bd ak se (d .book .resting) (d .book .free) (d .book .bids) (d .book .asks)
+  module _ {m : Stock} {out′ : List ℕ} {last : Last} (tr : Trades t (readBook k) out m out′ last)
+      (lr : length (m .records) ≡ length (k .records)) (lb : length (m .bids) ≡ length (k .bids))
+      (la : length (m .asks) ≡ length (k .asks)) (ls : length (m .search) ≡ length (k .search)) where
+    mid : LeavesAs (afterTrade n t (readBook k)) m
     mid = tr .book n
 
-    mid-lengths : Lengths (x .size) rs bd ak se
+    mid-lengths : Lengths (x .size) (m .records) (m .bids) (m .asks) (m .search)
     mid-lengths = lengths-stay lr lb la ls (x .sound .lengths)
 
-    mid-own : own (sideOf (t .side)) (deskBook rs bd ak se (d .book .bids) (d .book .asks)) ≡ own (sideOf (t .side)) (bookIn k)
+    mid-own : own (sideOf (t .side)) (readBook m) ≡ own (sideOf (t .side)) (readBook k)
     mid-own =
-        ap (own (sideOf (t .side))) (mid .book ∙ book-other (sideOf (t .side)) (o .left) (own (sideOf (t .side)) (bookIn k)))
-        ∙ own-book (sideOf (t .side)) (own (sideOf (t .side)) (bookIn k)) (o .left)
+        ap (own (sideOf (t .side))) (mid .book ∙ book-other (sideOf (t .side)) (o .left) (own (sideOf (t .side)) (readBook k)))
+        ∙ own-book (sideOf (t .side)) (own (sideOf (t .side)) (readBook k)) (o .left)
 
-    mid-place : rests ≡ true → d .book .resting < places rs
+    mid-place : rests ≡ true → m .book .resting < recordCount (m .records)
     mid-place r =
-        let b = deskBook rs bd ak se (d .book .bids) (d .book .asks) in
+        let b = readBook m in
         let h : k .book .resting < x .size .orders = leb-false (x .size .orders) (k .book .resting) (tested .place r) in
-        let c : length (b .bids) + length (b .asks) ≡ length (o .left) + length (own (sideOf (t .side)) (bookIn k)) =
-        ap (λ (v : Book (Unit {0})). length (v .bids) + length (v .asks)) (mid .book) ∙ book-count (metSide t) (o .left) (own (sideOf (t .side)) (bookIn k)) in
+        let c : length (b .bids) + length (b .asks) ≡ length (o .left) + length (own (sideOf (t .side)) (readBook k)) =
+        ap (λ (v : Book (Unit {0})). length (v .bids) + length (v .asks)) (mid .book) ∙ book-count (metSide t) (o .left) (own (sideOf (t .side)) (readBook k)) in
         let l : length (b .bids) + length (b .asks) < x .size .orders =
-        omega (arith, c, outcome-fewer u makers, own-count (sideOf (t .side)) (bookIn k), desk-resting (x .sound .desk)) in
+        omega (arith, c, outcome-fewer u makers, own-count (sideOf (t .side)) (readBook k), desk-resting (x .sound .tidy)) in
         open-place (mid .desk) (x .size) p mid-lengths (lt-leb (x .size .orders) (length (b .bids) + length (b .asks)) l)
 
-    mid-row : rests ≡ true → RoomOn (isAsk (t .side)) bd ak (d .book .bids) (d .book .asks) p
+    mid-row : rests ≡ true → RoomOn (sideOf (t .side)) m p
     mid-row r =
-        desk-room (mid .desk) (x .size) (isAsk (t .side)) p mid-lengths
-        (ap (λ (v : rule.Side). noRow (x .size .prices) p (own v (deskBook rs bd ak se (d .book .bids) (d .book .asks)))) (flag-is (t .side))
-        ∙ (ap (noRow (x .size .prices) p) mid-own ∙ (sym (x .crowded-is) ∙ tested .row r)))
+        desk-room {k = m} (mid .desk) (x .size) (sideOf (t .side)) p mid-lengths
+        (ap (noRow (x .size .prices) p) mid-own ∙ (sym (x .crowded-is) ∙ tested .row r))
 
-    pub settle-asks : CanSettle rests t (d .book) rs bd ak se
-    settle-asks = record { desk = mid .desk; place = mid-place; row = mid-row }
+    pub settle-asks : CanSettle rests t m
+    settle-asks = record { tidy = mid .desk; place = mid-place; row = mid-row }
 
     -- and what comes of it once the remainder has rested or lapsed, and the statistics have the fills
-    module _ {b′ : OrderBook} {rs′ bd′ ak′ se′ : List ℕ} (sd : Settles rests t (s .left .0) (deskBook rs bd ak se (d .book .bids) (d .book .asks)) b′ rs′ bd′ ak′ se′)
-        (mr : length rs′ ≡ length rs) (mb : length bd′ ≡ length bd) (ma : length ak′ ≡ length ak) (ms : length se′ ≡ length se)
+    module _ {k′ : Stock} (sd : Settles rests t (s .left .0) (readBook m) k′)
+        (mr : length (k′ .records) ≡ length (m .records)) (mb : length (k′ .bids) ≡ length (m .bids))
+        (ma : length (k′ .asks) ≡ length (m .asks)) (ms : length (k′ .search) ≡ length (m .search))
         {y : Totals} (ey : y ≡ totalsBy t s) (new : Statistics)
-        (en : statisticsOf new ≡ rule.traded (st .tracking) (y .quantity .sum) (y .worth .sum) (d .last .price .0) (d .last .qty .0) (statisticsOf st))
+        (en : statisticsOf new ≡ rule.traded (st .tracking) (y .quantity .sum) (y .worth .sum) (last .price .0) (last .qty .0) (statisticsOf st))
         (e : OrderEvent) (ee : eventOf e ≡ eventBy t (s .fills) (s .left .0) (filled t s)) where
-      abbrev k′ : Stock
-      k′ = record { book = b′; records = rs′; bids = bd′; asks = ak′; search = se′ }
-
       abbrev dk : rule.Desk (Unit {0})
-      dk = deskIn k st
+      dk = readDesk k st
 
-      mid-traded : deskBook rs bd ak se (d .book .bids) (d .book .asks) ≡ traded n t (bookIn k) st
-      mid-traded = mid .book ∙ book-other (sideOf (t .side)) (o .left) (own (sideOf (t .side)) (bookIn k))
+      mid-traded : readBook m ≡ traded n t (readBook k) st
+      mid-traded = mid .book ∙ book-other (sideOf (t .side)) (o .left) (own (sideOf (t .side)) (readBook k))
 
       record Ends : Type 0 where
-        desk : Desk rs′ bd′ ak′ se′ (b′ .resting) (b′ .free) (b′ .bids) (b′ .asks)
-        book : bookIn k′ ≡ (carried dk u) .desk .book
+        tidy : Tidy k′
+        book : readBook k′ ≡ (carried dk u) .desk .book
 
       ends : Ends
       ends = go rests refl
@@ -226,21 +211,21 @@ module _ {t : Taker} {s : Outlook} {rests : Bool} {k : Stock} {st : Statistics} 
               let l = sd .stands r in
               let h : remains (t .any) (o .rest) ≡ true = ap (remains (t .any)) (sym rest-is) ∙ (sym (x .rests-is) ∙ r) in
               record {
-                desk = l .desk;
+                tidy = l .desk;
                 book = l .book
-                    ∙ (ap (λ (q : ℕ). restIn (sideOf (t .side)) (t .id .0) q p (deskBook rs bd ak se (d .book .bids) (d .book .asks))) rest-is
-                    ∙ (ap (restIn (sideOf (t .side)) (t .id .0) (o .rest) p) mid-traded ∙ sym (carried-rests n t (bookIn k) st h)));
+                    ∙ (ap (λ (q : ℕ). restIn (sideOf (t .side)) (t .id .0) q p (readBook m)) rest-is
+                    ∙ (ap (restIn (sideOf (t .side)) (t .id .0) (o .rest) p) mid-traded ∙ sym (carried-rests n t (readBook k) st h)));
               }
           go false r =
               let l = sd .lapses r in
               let h : remains (t .any) (o .rest) ≡ false = ap (remains (t .any)) (sym rest-is) ∙ (sym (x .rests-is) ∙ r) in
-              record { desk = l .desk; book = l .book ∙ (mid-traded ∙ sym (carried-lapses n t (bookIn k) st h)) }
+              record { tidy = l .desk; book = l .book ∙ (mid-traded ∙ sym (carried-lapses n t (readBook k) st h)) }
 
       stats-is : statisticsOf new ≡ (carried dk u) .desk .stats
       unfolding carried
       stats-is =
-          en ∙ (ap (λ (v : Totals). rule.traded (st .tracking) (v .quantity .sum) (v .worth .sum) (d .last .price .0) (d .last .qty .0) (statisticsOf st)) (totals-is ey)
-          ∙ traded-after st (o .fills) no-sum (d .last .price .0) (d .last .qty .0) (sym (tr .price n)) (sym (tr .quantity n)))
+          en ∙ (ap (λ (v : Totals). rule.traded (st .tracking) (v .quantity .sum) (v .worth .sum) (last .price .0) (last .qty .0) (statisticsOf st)) (totals-is ey)
+          ∙ traded-after st (o .fills) no-sum (last .price .0) (last .qty .0) (sym (tr .price n)) (sym (tr .quantity n)))
 
       answer-is : (carried dk u) .answer ≡ rule.done (eventOf e) (o .fills)
       unfolding carried
@@ -248,19 +233,19 @@ module _ {t : Taker} {s : Outlook} {rests : Bool} {k : Stock} {st : Statistics} 
           ap (λ (v : rule.Event). rule.done v (o .fills))
           (event-is n t makers ∙ sym (ee ∙ ap (λ (v : Outlook). eventBy t (v .fills) (v .left .0) (filled t v)) (told n)))
 
-      pub carries : Carries t k st out (Done e) k′ new out′
+      pub carries : Fulfils t k st out (Done e) k′ new out′
       carries = record { performs = performs }
         where
           performs : (z : rule.Size) → Sound z k → refusal z dk u ≡ none → Performs (Sound z) z (rule.order u) k st out (Done e) k′ new out′
           performs z w ne =
               let q : perform z dk (rule.order u) ≡ carried dk u = performs-carried z dk u ne in
-              let b : bookIn k′ ≡ (perform z dk (rule.order u)) .desk .book = ends .book ∙ sym (ap (λ (r : rule.Result (Unit {0})). r .desk .book) q) in
+              let b : readBook k′ ≡ (perform z dk (rule.order u)) .desk .book = ends .book ∙ sym (ap (λ (r : rule.Result (Unit {0})). r .desk .book) q) in
               let m : statisticsOf new ≡ (perform z dk (rule.order u)) .desk .stats = stats-is ∙ sym (ap (λ (r : rule.Result (Unit {0})). r .desk .stats) q) in
-              perf.carried e (o .fills) (ap (λ (r : rule.Result (Unit {0})). r .answer) q ∙ answer-is) refl
+              perf.carried (eventOf e) (o .fills) (ap (λ (r : rule.Result (Unit {0})). r .answer) q ∙ answer-is) refl
               (λ i. record { book = b i; stats = m i })
               (record {
                 lengths = lengths-stay (mr ∙ lr) (mb ∙ lb) (ma ∙ la) (ms ∙ ls) (w .lengths);
-                desk = ends .desk;
+                tidy = ends .tidy;
                 orderly = subst (WholeBook z) (sym b) (whole-book-after z dk (rule.order u) (w .orderly));
               })
               (tr .fills n)
@@ -268,34 +253,34 @@ module _ {t : Taker} {s : Outlook} {rests : Bool} {k : Stock} {st : Statistics} 
 -- ## refused or not
 
 module _ {z : rule.Size} {k : Stock} (w : Sound z k) (room : ℕ) (t : Taker) (s : Outlook) (st : Statistics) (h : Foretells t (k .book) (k .records) (k .bids) (k .asks) s)
-    {r f c : Bool} (er : r ≡ remains (t .any) (s .left .0)) (ef : f ≡ leb (z .orders) (k .book .resting)) (ec : c ≡ noRow (z .prices) (t .limit .0) (own (sideOf (t .side)) (bookIn k))) where
+    {r f c : Bool} (er : r ≡ remains (t .any) (s .left .0)) (ef : f ≡ leb (z .orders) (k .book .resting)) (ec : c ≡ noRow (z .prices) (t .limit .0) (own (sideOf (t .side)) (readBook k))) where
   -- the rules' refusal is what is decided from the outlook
-  pub judged : refusal z (deskIn k st) (takerOf room t) ≡ decided room t s st r f c
+  pub judged : refusal z (readDesk k st) (takerOf room t) ≡ decided room t s st r f c
   judged =
-      let cr : Bool = noRow (z .prices) (t .limit .0) (own (sideOf (t .side)) (bookIn k)) in
-      let fl : Bool = leb (z .orders) (length (bookIn k .bids) + length (bookIn k .asks)) in
-      refusal-is z room t (bookIn k) st
+      let cr : Bool = noRow (z .prices) (t .limit .0) (own (sideOf (t .side)) (readBook k)) in
+      let fl : Bool = leb (z .orders) (length (readBook k .bids) + length (readBook k .asks)) in
+      refusal-is z room t (readBook k) st
       ∙ (ap (λ (v : Outlook). decided room t v st (remains (t .any) (v .left .0)) fl cr) (sym (h room (k .search)))
-      ∙ (ap (λ (m : ℕ). decided room t s st (remains (t .any) (s .left .0)) (leb (z .orders) m) cr) (sym (desk-resting (w .desk)))
+      ∙ (ap (λ (m : ℕ). decided room t s st (remains (t .any) (s .left .0)) (leb (z .orders) m) cr) (sym (desk-resting (w .tidy)))
       ∙ (λ i. decided room t s st ((sym er) i) ((sym ef) i) ((sym ec) i))))
 
-  module _ {q : ℕ} (eq : q ≡ room) {m : ℕ} (en : m ≡ numberOf (decided q t s st r f c)) where
-    em : m ≡ numberOf (decided room t s st r f c)
-    em = en ∙ ap (λ (v : ℕ). numberOf (decided v t s st r f c)) eq
+  module _ {q : ℕ} (eq : q ≡ room) {m : ℕ} (en : m ≡ refusalNumber (decided q t s st r f c)) where
+    em : m ≡ refusalNumber (decided room t s st r f c)
+    em = en ∙ ap (λ (v : ℕ). refusalNumber (decided v t s st r f c)) eq
 
     pub order-refused : (m ≡ 0 → ⊥) → (out : List ℕ) → Performs (Sound z) z (rule.order (takerOf room t)) k st out (Refused m) k st out
     order-refused ne out =
-        perf.refused m (ap (λ (q : rule.Result (Unit {0})). q .answer) (performs-refused z (deskIn k st) (takerOf room t) m (judged ∙ number-some (decided room t s st r f c) m em ne))) refl refl refl refl
+        perf.refused m (ap (λ (q : rule.Result (Unit {0})). q .answer) (performs-refused z (readDesk k st) (takerOf room t) m (judged ∙ number-some (decided room t s st r f c) m em ne))) refl refl refl refl
 
     none-decided : m ≡ 0 → decided room t s st r f c ≡ none
     none-decided e = decided-none room t s st r f c (sym em ∙ e)
 
-    pub order-none : m ≡ 0 → refusal z (deskIn k st) (takerOf room t) ≡ none
+    pub order-none : m ≡ 0 → refusal z (readDesk k st) (takerOf room t) ≡ none
     order-none e = judged ∙ none-decided e
 
 pub order-accepted : {z : rule.Size} {k : Stock} (w : Sound z k) (out : List ℕ) (t : Taker) (s : Outlook) (st : Statistics) → Foretells t (k .book) (k .records) (k .bids) (k .asks) s
-    → {r c : Bool} → r ≡ remains (t .any) (s .left .0) → c ≡ noRow (z .prices) (t .limit .0) (own (sideOf (t .side)) (bookIn k))
-    → {q : ℕ} → q ≡ placesIn fillRow out → {m : ℕ} → m ≡ numberOf (decided q t s st r (leb (z .orders) (k .book .resting)) c) → m ≡ 0 → Accepted t s r k st out
+    → {r c : Bool} → r ≡ remains (t .any) (s .left .0) → c ≡ noRow (z .prices) (t .limit .0) (own (sideOf (t .side)) (readBook k))
+    → {q : ℕ} → q ≡ places fillRow out → {m : ℕ} → m ≡ refusalNumber (decided q t s st r (leb (z .orders) (k .book .resting)) c) → m ≡ 0 → Accepted t s r k st out
 order-accepted {z} {k} w out t s st h {r} {c} er ec {q} eq {m} en e = record {
   size = z;
   crowded = c;
@@ -303,16 +288,16 @@ order-accepted {z} {k} w out t s st h {r} {c} er ec {q} eq {m} en e = record {
   foretold = h;
   rests-is = er;
   crowded-is = ec;
-  fine = decided-none (placesIn fillRow out) t s st r (leb (z .orders) (k .book .resting)) c
-      (sym (en ∙ ap (λ (v : ℕ). numberOf (decided v t s st r (leb (z .orders) (k .book .resting)) c)) eq) ∙ e);
+  fine = decided-none (places fillRow out) t s st r (leb (z .orders) (k .book .resting)) c
+      (sym (en ∙ ap (λ (v : ℕ). refusalNumber (decided v t s st r (leb (z .orders) (k .book .resting)) c)) eq) ∙ e);
 }
 
 -- no more is left than was wanted
 pub outlook-left : (t : Taker) (b : OrderBook) (rs bd ak : List ℕ) (s : Outlook) → Foretells t b rs bd ak s → s .left .0 ≤ t .qty .0
 outlook-left t b rs bd ak s h =
-    subst (λ (v : Outlook). v .left .0 ≤ t .qty .0) (sym (h 0 [])) (left-within 0 t (own (opposite (sideOf (t .side))) (deskBook rs bd ak [] (b .bids) (b .asks))))
+    subst (λ (v : Outlook). v .left .0 ≤ t .qty .0) (sym (h 0 [])) (left-within 0 t (own (opposite (sideOf (t .side))) (storedBook rs bd ak [] (b .bids) (b .asks))))
 
 -- a price without a row, of a sound stock
 pub crowds-here : {z : rule.Size} (k : Stock) → Sound z k → (t : Taker) {c : Bool} → CrowdsOn (z .prices) t (k .book) (k .bids) (k .asks) c
-    → c ≡ noRow (z .prices) (t .limit .0) (own (sideOf (t .side)) (bookIn k))
-crowds-here k w t h = h (k .records) (k .search) (standing-bids (w .desk)) (standing-asks (w .desk))
+    → c ≡ noRow (z .prices) (t .limit .0) (own (sideOf (t .side)) (readBook k))
+crowds-here k w t h = h (k .records) (k .search) (standing-bids (w .tidy)) (standing-asks (w .tidy))

@@ -13,12 +13,11 @@ use Rattle.models.specs.declared.Statistics.{Statistics}
 use Rattle.models.specs.declared.Id.{Id}
 use Rattle.models.specs.Readings.{sideOf}
 use Rattle.ledger.specs.declared.OrderBook.{OrderBook}
-use Rattle.ledger.specs.Desk.{Desk, Leaves, deskBook}
+use Rattle.ledger.specs.Stock.{Stock}
+use Rattle.ledger.specs.Desk.{LeavesAs, Tidy, readBook, storedBook}
 use Rattle.ledger.specs.Doors.{RoomOn, restIn}
-use Rattle.models.specs.declared.Side.{Side}
-use Rattle.models.specs.declared.Side.the-variants.{Bid, Ask}
-use Rattle.records.specs.Rows.{places}
-use Rattle.models.specs.Rows.{fillRow, places as places′}
+use Rattle.records.specs.Rows.{recordCount}
+use Rattle.models.specs.Rows.{fillRow, places}
 use Rattle.order.specs.Decided.{decided, remains}
 use Rattle.depth.specs.Sides.{Standing}
 use Rattle.survey.specs.declared.Taker.{Taker}
@@ -28,7 +27,7 @@ use Rattle.survey.specs.Surveyed.{surveyed}
 use Rattle.survey.specs.Taker.{takerOf}
 use Rattle.desk.specs.declared.Answer.{Answer}
 use Rattle.desk.specs.declared.Answer.the-variants.{Done}
-use Rattle.desk.specs.Stock.{Stock, Sound, bookIn, deskIn}
+use Rattle.desk.specs.Stock.{Sound, readDesk}
 use Rattle.desk.specs.Performs.{Performs}
 
 -- both sides can be matched
@@ -39,7 +38,7 @@ pub record Matchable (b : OrderBook) (rs bd ak : List ℕ) : Type 0 where
 -- s is what the order t would do, whatever the room and the search
 abbrev pub Foretells : Taker → OrderBook → List ℕ → List ℕ → List ℕ → Outlook → Type 0
 Foretells t b rs bd ak s = (room : ℕ) (se : List ℕ)
-    → s ≡ surveyed (rule.outcome (takerOf room t) (rule.own (rule.opposite (sideOf (t .side))) (deskBook rs bd ak se (b .bids) (b .asks))))
+    → s ≡ surveyed (rule.outcome (takerOf room t) (rule.own (rule.opposite (sideOf (t .side))) (storedBook rs bd ak se (b .bids) (b .asks))))
 
 -- the price p is new to the orders l, whose side has no row left of n
 abbrev pub noRow : ℕ → ℕ → List (rule.Order (Unit {0})) → Bool
@@ -52,24 +51,20 @@ Crowds most p lv n r = (rs : List ℕ) (sd : rule.Side) (fnd : ℕ → Bool) →
 -- r says so of the side that the order t would rest on
 abbrev pub CrowdsOn : ℕ → Taker → OrderBook → List ℕ → List ℕ → Bool → Type 0
 CrowdsOn most t b bd ak r = (rs se : List ℕ) → Standing rs bd (b .bids) → Standing rs ak (b .asks)
-    → r ≡ noRow most (t .limit .0) (rule.own (sideOf (t .side)) (deskBook rs bd ak se (b .bids) (b .asks)))
+    → r ≡ noRow most (t .limit .0) (rule.own (sideOf (t .side)) (storedBook rs bd ak se (b .bids) (b .asks)))
 
 -- ## The remainder
 
-abbrev pub isAsk : Side → Bool
-isAsk Bid = false
-isAsk Ask = true
-
 -- the remainder can rest, if it is to
-pub record CanSettle (rests : Bool) (t : Taker) (b : OrderBook) (rs bd ak se : List ℕ) : Type 0 where
-  pub desk : Desk rs bd ak se (b .resting) (b .free) (b .bids) (b .asks)
-  pub place : rests ≡ true → b .resting < places rs
-  pub row : rests ≡ true → RoomOn (isAsk (t .side)) bd ak (b .bids) (b .asks) (t .limit .0)
+pub record CanSettle (rests : Bool) (t : Taker) (k : Stock) : Type 0 where
+  pub tidy : Tidy k
+  pub place : rests ≡ true → k .book .resting < recordCount (k .records)
+  pub row : rests ≡ true → RoomOn (sideOf (t .side)) k (t .limit .0)
 
--- k is the book before: the remainder rests, or nothing changes
-pub record Settles (rests : Bool) (t : Taker) (left : ℕ) (k : rule.Book (Unit {0})) (b : OrderBook) (rs bd ak se : List ℕ) : Type 0 where
-  pub stands : rests ≡ true → Leaves (restIn (sideOf (t .side)) (t .id .0) left (t .limit .0) k) rs bd ak se (b .resting) (b .free) (b .bids) (b .asks)
-  pub lapses : rests ≡ false → Leaves k rs bd ak se (b .resting) (b .free) (b .bids) (b .asks)
+-- b is the book before: the remainder rests, or nothing changes
+pub record Settles (rests : Bool) (t : Taker) (left : ℕ) (b : rule.Book (Unit {0})) (k : Stock) : Type 0 where
+  pub stands : rests ≡ true → LeavesAs (restIn (sideOf (t .side)) (t .id .0) left (t .limit .0) b) k
+  pub lapses : rests ≡ false → LeavesAs b k
 
 -- ## An order that is not refused
 
@@ -80,13 +75,13 @@ pub record Accepted (t : Taker) (s : Outlook) (rests : Bool) (k : Stock) (st : S
   pub sound : Sound size k
   pub foretold : Foretells t (k .book) (k .records) (k .bids) (k .asks) s
   pub rests-is : rests ≡ remains (t .any) (s .left .0)
-  pub crowded-is : crowded ≡ noRow (size .prices) (t .limit .0) (rule.own (sideOf (t .side)) (bookIn k))
-  pub fine : decided (places′ fillRow out) t s st rests (leb (size .orders) (k .book .resting)) crowded ≡ none
+  pub crowded-is : crowded ≡ noRow (size .prices) (t .limit .0) (rule.own (sideOf (t .side)) (readBook k))
+  pub fine : decided (places fillRow out) t s st rests (leb (size .orders) (k .book .resting)) crowded ≡ none
 
 -- it is carried out as the rules say, at every size at which the book is sound and that does not refuse it
-pub record Carries (t : Taker) (k : Stock) (st : Statistics) (out : List ℕ) (a : Answer) (k′ : Stock) (st′ : Statistics) (out′ : List ℕ) : Type 0 where
-  pub performs : (z : rule.Size) → Sound z k → rule.refusal z (deskIn k st) (takerOf (places′ fillRow out) t) ≡ none
-      → Performs (Sound z) z (rule.order (takerOf (places′ fillRow out) t)) k st out a k′ st′ out′
+pub record Fulfils (t : Taker) (k : Stock) (st : Statistics) (out : List ℕ) (a : Answer) (k′ : Stock) (st′ : Statistics) (out′ : List ℕ) : Type 0 where
+  pub performs : (z : rule.Size) → Sound z k → rule.refusal z (readDesk k st) (takerOf (places fillRow out) t) ≡ none
+      → Performs (Sound z) z (rule.order (takerOf (places fillRow out) t)) k st out a k′ st′ out′
 
 -- ## A cancel
 

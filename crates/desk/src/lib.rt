@@ -5,13 +5,14 @@ ghost use mathlib.Core.List.{List};
 ghost use Prim.Native.Nat.{ℕ};
 ghost use Rattle.rules.specs.Rules as rule;
 ghost use Rattle.side.specs.Prices.{Rising};
-ghost use Rattle.desk.specs.Stock.{Stock, Sound};
+ghost use Rattle.ledger.specs.Stock.{stock};
+ghost use Rattle.ledger.specs.Desk.{readBook};
+ghost use Rattle.desk.specs.Stock.{Sound};
 ghost use Rattle.desk.specs.Performs.{Performs};
 ghost use Rattle.models.specs.Rows.{fillRow, places};
-ghost use Rattle.ledger.specs.Desk.{deskBook};
-ghost use Rattle.whole.specs.Whole.{sizeOf as sizeOf′};
+ghost use Rattle.whole.specs.Whole.{sizeOf};
 ghost use Rattle.survey.specs.Taker.{takerOf};
-ghost use Rattle.desk.specs.Steps.{Matchable, Foretells, Crowds, CrowdsOn, isAsk, CanSettle, Settles, Accepted, Carries, Held, Withdraws};
+ghost use Rattle.desk.specs.Steps.{Matchable, Foretells, Crowds, CrowdsOn, CanSettle, Settles, Accepted, Fulfils, Held, Withdraws};
 use depth::is_new_price;
 use ledger::OrderBook;
 use models::Id;
@@ -80,15 +81,6 @@ fn is_crowded(bids: &[u64], asks: &[u64], book: OrderBook, t: Taker, most: usize
     }
 }
 
-fn is_ask(side: Side) -> bool
-    ensures { λ r. ⌜ r ≡ isAsk side ⌝ }
-{
-    match side {
-        Side::Bid => false,
-        Side::Ask => true,
-    }
-}
-
 // What is left of an order rests behind all others at its price, if it is to.
 fn settle(
     records: &mut [u64],
@@ -100,26 +92,17 @@ fn settle(
     left: Quantity,
     rests: bool,
 ) -> OrderBook
-    requires { ⌜ CanSettle rests t book (now records) (now bids) (now asks) (now search) ⌝ }
-    ensures { λ r. ⌜ Settles rests t (left .0) (deskBook (now (records .entry)) (now (bids .entry)) (now (asks .entry)) (now (search .entry)) (book .bids) (book .asks))
-        r (now (records .exit)) (now (bids .exit)) (now (asks .exit)) (now (search .exit)) ⌝ }
+    requires { ⌜ CanSettle rests t (stock book (now records) (now bids) (now asks) (now search)) ⌝ }
+    ensures { λ r. ⌜ Settles rests t (left .0) (readBook (stock book (now (records .entry)) (now (bids .entry)) (now (asks .entry)) (now (search .entry))))
+        (stock r (now (records .exit)) (now (bids .exit)) (now (asks .exit)) (now (search .exit))) ⌝ }
 {
     if !rests {
         return book;
     }
     let side = t.side;
-    let ask = is_ask(side);
-    ledger::rest(
-        records,
-        bids,
-        asks,
-        search,
-        book,
-        ask,
-        t.id.0,
-        left.0,
-        t.limit.0,
-    )
+    let id = t.id;
+    let price = t.limit;
+    ledger::rest(records, bids, asks, search, book, side, id, left, price)
 }
 
 // An order that nothing speaks against is carried out: it trades, its remainder rests or lapses, the statistics get its fills.
@@ -135,9 +118,9 @@ fn carry(
     s: Outlook,
     rests: bool,
 ) -> Executed
-    requires { ⌜ Accepted t s rests (record { book = book; records = now records; bids = now bids; asks = now asks; search = now search }) statistics (now fills) ⌝ }
-    ensures { λ r. ⌜ Carries t (record { book = book; records = now (records .entry); bids = now (bids .entry); asks = now (asks .entry); search = now (search .entry) }) statistics (now (fills .entry))
-        (r .answer) (record { book = r .book; records = now (records .exit); bids = now (bids .exit); asks = now (asks .exit); search = now (search .exit) }) (r .statistics) (now (fills .exit)) ⌝ }
+    requires { ⌜ Accepted t s rests (stock book (now records) (now bids) (now asks) (now search)) statistics (now fills) ⌝ }
+    ensures { λ r. ⌜ Fulfils t (stock book (now (records .entry)) (now (bids .entry)) (now (asks .entry)) (now (search .entry))) statistics (now (fills .entry))
+        (r .answer) (stock (r .book) (now (records .exit)) (now (bids .exit)) (now (asks .exit)) (now (search .exit))) (r .statistics) (now (fills .exit)) ⌝ }
 {
     let d = trade(records, bids, asks, search, book, t, s.used, fills);
     let traded = d.book;
@@ -168,10 +151,10 @@ pub fn order(
     fills: &mut [u64],
     t: Taker,
 ) -> Executed
-    requires { ⌜ Sound (sizeOf′ size) (record { book = book; records = now records; bids = now bids; asks = now asks; search = now search }) ⌝ }
-    ensures { λ r. ⌜ Performs (Sound (sizeOf′ size)) (sizeOf′ size) (rule.order (takerOf (places fillRow (now (fills .entry))) t))
-        (record { book = book; records = now (records .entry); bids = now (bids .entry); asks = now (asks .entry); search = now (search .entry) }) statistics (now (fills .entry))
-        (r .answer) (record { book = r .book; records = now (records .exit); bids = now (bids .exit); asks = now (asks .exit); search = now (search .exit) }) (r .statistics) (now (fills .exit)) ⌝ }
+    requires { ⌜ Sound (sizeOf size) (stock book (now records) (now bids) (now asks) (now search)) ⌝ }
+    ensures { λ r. ⌜ Performs (Sound (sizeOf size)) (sizeOf size) (rule.order (takerOf (places fillRow (now (fills .entry))) t))
+        (stock book (now (records .entry)) (now (bids .entry)) (now (asks .entry)) (now (search .entry))) statistics (now (fills .entry))
+        (r .answer) (stock (r .book) (now (records .exit)) (now (bids .exit)) (now (asks .exit)) (now (search .exit))) (r .statistics) (now (fills .exit)) ⌝ }
 {
     let s = outlook(records, bids, asks, book, t);
     let rests = rests(t, s);
@@ -208,9 +191,9 @@ pub fn withdraw(
     book: OrderBook,
     id: Id,
 ) -> OrderBook
-    requires { ⌜ Held (record { book = book; records = now records; bids = now bids; asks = now asks; search = now search }) ⌝ }
-    ensures { λ r. ⌜ Withdraws id (record { book = book; records = now (records .entry); bids = now (bids .entry); asks = now (asks .entry); search = now (search .entry) })
-        (record { book = r; records = now (records .exit); bids = now (bids .exit); asks = now (asks .exit); search = now (search .exit) }) ⌝ }
+    requires { ⌜ Held (stock book (now records) (now bids) (now asks) (now search)) ⌝ }
+    ensures { λ r. ⌜ Withdraws id (stock book (now (records .entry)) (now (bids .entry)) (now (asks .entry)) (now (search .entry)))
+        (stock r (now (records .exit)) (now (bids .exit)) (now (asks .exit)) (now (search .exit))) ⌝ }
 {
-    ledger::cancel(records, bids, asks, search, book, id.0)
+    ledger::cancel(records, bids, asks, search, book, id)
 }

@@ -6,16 +6,17 @@ use mathlib.Core.Path.{_≡_, subst, refl, sym}
 use mathlib.Core.List.{List}
 use Rattle.rules.specs.Rules as rule
 use Rattle.models.specs.declared.Statistics.{Statistics}
-use Rattle.search.specs.Seek.{Tells as Decides}
+use Rattle.search.specs.Seek.{Decides}
 use Rattle.ledger.specs.declared.OrderBook.{OrderBook}
-use Rattle.whole.specs.Whole.{Whole}
+use Rattle.ledger.specs.Stock.{stock}
+use Rattle.whole.specs.Whole.{WholeStorage}
 use Rattle.desk.specs.declared.Answer.{Answer}
 use Rattle.calls.specs.declared.Quoted.{Quoted}
 use Rattle.calls.specs.declared.Deep.{Deep}
 use Rattle.calls.specs.declared.Got.{Got}
 use Rattle.calls.specs.Calls.{Executes, Tells, Shows, Finds}
 use Rattle.ffi.specs.Numbers.{bookIn, statisticsIn}
-use Rattle.ffi.specs.Exports.{stock, Reported, Carried, Quotes, Asked, Depths, Deepened, Looks, Sought, Checked, whole, broken}
+use Rattle.ffi.specs.Exports.{Reported, Carried, Quotes, Asked, Depths, Deepened, LookReported, Sought, Checked, whole, broken}
 
 pub carried : {c : rule.Call (Unit {0})} {d rs bd ak se out an : List ℕ} {n : ℕ} {d′ rs′ bd′ ak′ se′ out′ an′ : List ℕ} {b b′ : OrderBook} {st st′ : Statistics} {a : Answer}
     → b ≡ bookIn d → st ≡ statisticsIn d
@@ -42,12 +43,12 @@ deepened {l = l} {rs = rs} {bd = bd} {ak = ak} {se = se} {out = out} {out′ = o
     record { answer = a; shows = subst (λ (y : OrderBook). Shows rule.hall l (stock y rs bd ak se) out a out′) eb x; reported = r }
 
 pub sought : {i : ℕ} {d rs bd ak se an : List ℕ} {n : ℕ} {an′ : List ℕ} {b : OrderBook} {a : Got}
-    → b ≡ bookIn d → Finds rule.hall i (stock b rs bd ak se) a → Looks an a n an′ → Sought i d rs bd ak se an n an′
+    → b ≡ bookIn d → Finds rule.hall i (stock b rs bd ak se) a → LookReported an a n an′ → Sought i d rs bd ak se an n an′
 sought {i = i} {rs = rs} {bd = bd} {ak = ak} {se = se} {a = a} eb x r =
     record { answer = a; finds = subst (λ (y : OrderBook). Finds rule.hall i (stock y rs bd ak se) a) eb x; reported = r }
 
-pub checked : {z : rule.Size} {d rs bd ak se : List ℕ} {b : OrderBook} {t : Bool} → b ≡ bookIn d → Decides t (Whole z b rs bd ak se) → t ≡ true → Checked z d rs bd ak se 0
-checked {z = z} {rs = rs} {bd = bd} {ak = ak} {se = se} eb x e = whole (subst (λ (y : OrderBook). Whole z y rs bd ak se) eb (x .yea e)) refl
+pub checked : {z : rule.Size} {d rs bd ak se : List ℕ} {b : OrderBook} {t : Bool} → b ≡ bookIn d → Decides t (WholeStorage z b rs bd ak se) → t ≡ true → Checked z d rs bd ak se 0
+checked {z = z} {rs = rs} {bd = bd} {ak = ak} {se = se} eb x e = whole (subst (λ (y : OrderBook). WholeStorage z y rs bd ak se) eb (x .yea e)) refl
 
-pub unchecked : {z : rule.Size} {d rs bd ak se : List ℕ} {b : OrderBook} {t : Bool} → b ≡ bookIn d → Decides t (Whole z b rs bd ak se) → t ≡ false → Checked z d rs bd ak se 1
-unchecked {z = z} {rs = rs} {bd = bd} {ak = ak} {se = se} eb x e = broken (λ w. x .nay e (subst (λ (y : OrderBook). Whole z y rs bd ak se) (sym eb) w)) refl
+pub unchecked : {z : rule.Size} {d rs bd ak se : List ℕ} {b : OrderBook} {t : Bool} → b ≡ bookIn d → Decides t (WholeStorage z b rs bd ak se) → t ≡ false → Checked z d rs bd ak se 1
+unchecked {z = z} {rs = rs} {bd = bd} {ak = ak} {se = se} eb x e = broken (λ w. x .nay e (subst (λ (y : OrderBook). WholeStorage z y rs bd ak se) (sym eb) w)) refl

@@ -13,12 +13,12 @@ use Rattle.models.specs.declared.Side.{Side}
 use Rattle.models.specs.declared.Side.the-variants.{Bid, Ask}
 use Rattle.models.specs.declared.Statistics.{Statistics}
 use Rattle.ledger.specs.declared.OrderBook.{OrderBook}
-use Rattle.whole.specs.Whole.{Whole}
+use Rattle.ledger.specs.Stock.{stock}
+use Rattle.whole.specs.Whole.{WholeStorage}
 use Rattle.depth.specs.declared.Lookup.{Lookup}
 use Rattle.depth.specs.declared.Quote.{Quote}
 use Rattle.desk.specs.declared.Answer.{Answer}
 use Rattle.desk.specs.declared.Answer.the-variants.{Refused, Done}
-use Rattle.desk.specs.Stock.{Stock}
 use Rattle.calls.specs.declared.Quoted.{Quoted}
 use Rattle.calls.specs.declared.Quoted.the-variants as quoted
 use Rattle.calls.specs.declared.Deep.{Deep}
@@ -29,10 +29,6 @@ use Rattle.calls.specs.declared.Opening.{Opening}
 use Rattle.calls.specs.declared.Opening.the-variants as new
 use Rattle.calls.specs.Calls.{Executes, Tells, Shows, Finds, Makes}
 use Rattle.ffi.specs.Numbers.{bookIn, statisticsIn, numbersOf, eventNumbers, quoteNumbers, depthNumbers, lookNumbers}
-
--- the stored book: its small values, and the lists lent
-abbrev pub stock : OrderBook → List ℕ → List ℕ → List ℕ → List ℕ → Stock
-stock b rs bd ak se = record { book = b; records = rs; bids = bd; asks = ak; search = se }
 
 -- ---- orders and cancels
 
@@ -76,14 +72,14 @@ pub record Deepened (l : ℕ) (d rs bd ak se out an : List ℕ) (n : ℕ) (out�
   pub shows : Shows rule.hall l (stock (bookIn d) rs bd ak se) out answer out′
   pub reported : Depths an answer n an′
 
-pub data Looks (an : List ℕ) (a : Got) (n : ℕ) (an′ : List ℕ) : Type 0 where
-  refused : a ≡ got.Refused n → an′ ≡ an → Looks an a n an′
-  told : (q : Lookup) → a ≡ got.Told q → n ≡ 0 → an′ ≡ lookNumbers (q .found) (q .count) → Looks an a n an′
+pub data LookReported (an : List ℕ) (a : Got) (n : ℕ) (an′ : List ℕ) : Type 0 where
+  refused : a ≡ got.Refused n → an′ ≡ an → LookReported an a n an′
+  told : (q : Lookup) → a ≡ got.Told q → n ≡ 0 → an′ ≡ lookNumbers (q .found) (q .count) → LookReported an a n an′
 
 pub record Sought (i : ℕ) (d rs bd ak se an : List ℕ) (n : ℕ) (an′ : List ℕ) : Type 0 where
   pub answer : Got
   pub finds : Finds rule.hall i (stock (bookIn d) rs bd ak se) answer
-  pub reported : Looks an answer n an′
+  pub reported : LookReported an answer n an′
 
 -- ---- a fresh book
 
@@ -91,7 +87,7 @@ pub data Opens (d : List ℕ) (a : Opening) (n : ℕ) (d′ : List ℕ) : Type 0
   refused : a ≡ new.Refused n → d′ ≡ d → Opens d a n d′
   made : (b : OrderBook) (st : Statistics) → a ≡ new.Made b st → n ≡ 0 → d′ ≡ numbersOf b st → Opens d a n d′
 
-pub record Opened (d rs bd ak se : List ℕ) (n : ℕ) (d′ rs′ bd′ ak′ se′ : List ℕ) : Type 0 where
+pub record OpenedAs (d rs bd ak se : List ℕ) (n : ℕ) (d′ rs′ bd′ ak′ se′ : List ℕ) : Type 0 where
   pub answer : Opening
   pub makes : Makes rule.hall rs bd ak se answer rs′ bd′ ak′ se′
   pub reported : Opens d answer n d′
@@ -100,5 +96,5 @@ pub record Opened (d rs bd ak se : List ℕ) (n : ℕ) (d′ rs′ bd′ ak′ s
 
 -- the result n of the check at the size z
 pub data Checked (z : rule.Size) (d rs bd ak se : List ℕ) (n : ℕ) : Type 0 where
-  whole : Whole z (bookIn d) rs bd ak se → n ≡ 0 → Checked z d rs bd ak se n
-  broken : (Whole z (bookIn d) rs bd ak se → ⊥) → n ≡ 1 → Checked z d rs bd ak se n
+  whole : WholeStorage z (bookIn d) rs bd ak se → n ≡ 0 → Checked z d rs bd ak se n
+  broken : (WholeStorage z (bookIn d) rs bd ak se → ⊥) → n ≡ 1 → Checked z d rs bd ak se n

@@ -11,7 +11,7 @@ ghost use Rattle.models.specs.Readings.{callOf};
 ghost use Rattle.models.specs.Rows.{fillRow, places};
 ghost use Rattle.calls.specs.Calls.{lowestAsk, highestBid, spreadOf};
 ghost use Rattle.ffi.specs.Numbers.{yes};
-ghost use Rattle.ffi.specs.Exports.{Carried, Sided, Asked, Deepened, Sought, Opened, Checked};
+ghost use Rattle.ffi.specs.Exports.{Carried, Sided, Asked, Deepened, Sought, OpenedAs, Checked};
 use crate::numbers::ANSWER;
 use crate::numbers::DESK;
 use crate::numbers::TRACKING;
@@ -38,7 +38,7 @@ pub extern "C" fn felavuti_fresh(
     asks: &mut [u64],
     search: &mut [u64],
 ) -> u64
-    ensures { λ r. ⌜ Opened (now (desk .entry)) (now (records .entry)) (now (bids .entry)) (now (asks .entry)) (now (search .entry)) r
+    ensures { λ r. ⌜ OpenedAs (now (desk .entry)) (now (records .entry)) (now (bids .entry)) (now (asks .entry)) (now (search .entry)) r
         (now (desk .exit)) (now (records .exit)) (now (bids .exit)) (now (asks .exit)) (now (search .exit)) ⌝ }
 {
     let lent = *desk;

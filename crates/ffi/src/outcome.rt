@@ -1,6 +1,6 @@
 // What an exported call returns and leaves, by value: after a refusal the numbers that were lent, as they were.
 ghost use mathlib.Core.Path.{_≡_};
-ghost use Rattle.ffi.specs.Exports.{Reported, Quotes, Depths, Looks, Opens, sideIn};
+ghost use Rattle.ffi.specs.Exports.{Reported, Quotes, Depths, LookReported, Opens, sideIn};
 use crate::numbers;
 use crate::numbers::ANSWER;
 use crate::numbers::DESK;
@@ -88,7 +88,7 @@ pub fn deepened(answer: [u64; ANSWER], told: Deep) -> Reply
 }
 
 pub fn looked(answer: [u64; ANSWER], told: Got) -> Reply
-    ensures { λ r. ⌜ Looks answer told (r .code) (r .answer) ⌝ }
+    ensures { λ r. ⌜ LookReported answer told (r .code) (r .answer) ⌝ }
 {
     match told {
         Got::Refused(code) => Reply { code, answer },

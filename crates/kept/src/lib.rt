@@ -8,7 +8,7 @@ use models::OrderType;
 use models::Statistics;
 use models::Trade;
 use models::bits::bits_of;
-use script::Desk;
+use script::OwnDesk;
 use script::MARK;
 use tell::line;
 use tell::number;
@@ -113,31 +113,31 @@ fn same_statistics(a: Statistics, b: Statistics) -> bool {
     )
 }
 
-fn same_records(a: Desk, b: Desk) -> bool {
+fn same_records(a: OwnDesk, b: OwnDesk) -> bool {
     let were = a.records;
     let are = b.records;
     same(&were, &are)
 }
 
-fn same_bids(a: Desk, b: Desk) -> bool {
+fn same_bids(a: OwnDesk, b: OwnDesk) -> bool {
     let were = a.bids;
     let are = b.bids;
     same(&were, &are)
 }
 
-fn same_asks(a: Desk, b: Desk) -> bool {
+fn same_asks(a: OwnDesk, b: OwnDesk) -> bool {
     let were = a.asks;
     let are = b.asks;
     same(&were, &are)
 }
 
-fn same_search(a: Desk, b: Desk) -> bool {
+fn same_search(a: OwnDesk, b: OwnDesk) -> bool {
     let were = a.search;
     let are = b.search;
     same(&were, &are)
 }
 
-fn same_storage(a: Desk, b: Desk) -> bool {
+fn same_storage(a: OwnDesk, b: OwnDesk) -> bool {
     all(
         same_records(a, b),
         same_bids(a, b),
@@ -147,7 +147,7 @@ fn same_storage(a: Desk, b: Desk) -> bool {
 }
 
 // Whether two desks are equal in book, statistics and every stored number.
-pub fn same_desk(a: Desk, b: Desk) -> bool {
+pub fn same_desk(a: OwnDesk, b: OwnDesk) -> bool {
     let was = a.book;
     let is = b.book;
     let were = a.statistics;
@@ -179,7 +179,7 @@ pub fn tell_answer(answer: Answer, kept: bool) {
 }
 
 // An order or a cancel and its answer; for a refusal, whether everything is as it was.
-pub fn order(d: Desk, room: usize, o: OrderType) -> Desk {
+pub fn order(d: OwnDesk, room: usize, o: OrderType) -> OwnDesk {
     tell::order(o);
     let done = script::execute(d, room, o);
     let answer = done.answer;
@@ -203,7 +203,7 @@ fn tell_deep(deep: Deep, kept: bool) {
 }
 
 // Depth with so long a buffer; for a refusal, whether that is as it was.
-pub fn depth(d: Desk, room: usize) {
+pub fn depth(d: OwnDesk, room: usize) {
     let shown = script::depth(d, room);
     let deep = shown.deep;
     let levels = shown.levels;

@@ -13,7 +13,7 @@ use Rattle.arena.specs.Times.{times}
 use Rattle.side.specs.Orders.{codes, orderAt, orders}
 use Rattle.side.specs.Read.{levelsIn}
 use Rattle.side.proofs.Orders.{codes-times}
-use Rattle.ledger.specs.Desk.{deskBook, found}
+use Rattle.ledger.specs.Desk.{storedBook, found}
 use Rattle.ledger.specs.Doors.{ApartAt}
 
 -- what holds of all orders holds of the one at each code
@@ -25,7 +25,7 @@ all-at rs fnd P (y ∷ l) x (p & a) i = go (eqb x y) refl (all-at rs fnd P l x a
     go true e k = rw (eqb-true x y e) p
     go false e k = k (omega (arith, ap one e))
 
-pub apart-at : (rs bd ak se : List ℕ) (nb na : ℕ) → Whole (deskBook rs bd ak se nb na) → ApartAt rs (levelsIn rs bd nb) (levelsIn rs ak na)
+pub apart-at : (rs bd ak se : List ℕ) (nb na : ℕ) → Whole (storedBook rs bd ak se nb na) → ApartAt rs (levelsIn rs bd nb) (levelsIn rs ak na)
 apart-at rs bd ak se nb na h x y i j =
     let bw = levelsIn rs bd nb in
     let aw = levelsIn rs ak na in

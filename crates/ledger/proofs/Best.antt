@@ -1,7 +1,7 @@
 -- The best order of a side: the first of its best level's queue. Assumes nothing.
 use Prim.Native.Nat.{suc, zero, ℕ, _*_, _+_, _-_, _<_, _≤_}
 use mathlib.Core.List.{List, [], _++_, _∷_}
-use mathlib.Core.Path.{ap, sym, _≡_}
+use mathlib.Core.Path.{ap, subst, sym, _≡_}
 use native.Mathlib.Omega.{arith}
 use lib.ListN.{getD, length}
 use Rattle.rules.specs.Rules.{ask, bid}
@@ -12,7 +12,11 @@ use Rattle.arena.proofs.Times.{one-self}
 use Rattle.side.specs.Levels.{Lvl, downs, nth, ups}
 use Rattle.side.specs.Orders.{codes}
 use Rattle.side.specs.Read.{levelsIn}
-use Rattle.ledger.specs.Desk.{Busy, Desk}
+use Rattle.models.specs.declared.Side as models
+use Rattle.models.specs.Readings.{sideOf}
+use Rattle.ledger.specs.declared.OrderBook.{OrderBook}
+use Rattle.ledger.specs.Desk.{Busy, LedgerIn}
+use Rattle.ledger.specs.Doors.{Fronted}
 
 -- no level of a side is empty
 pub busy-at : (ws : List Lvl) (i : ℕ) → Busy ws → i < length ws → 1 ≤ length (nth ws i .queue)
@@ -39,7 +43,7 @@ ups-front : (ws : List Lvl) (x : ℕ) (q : List ℕ) → 1 ≤ length ws → nth
 ups-front [] x q h e = absurd (let z : ⊥ = omega arith in z)
 ups-front (v ∷ ws) x q h e = (q ++ ups ws, ap (λ (l : List ℕ). l ++ ups ws) e)
 
-module _ {rs bd ak se : List ℕ} {r f nb na : ℕ} (w : Desk rs bd ak se r f nb na) where
+module _ {rs bd ak se : List ℕ} {r f nb na : ℕ} (w : LedgerIn rs bd ak se r f nb na) where
   abbrev bw : List Lvl
   bw = levelsIn rs bd nb
 
@@ -59,3 +63,7 @@ module _ {rs bd ak se : List ℕ} {r f nb na : ℕ} (w : Desk rs bd ak se r f nb
       let k : 0 < length aw = omega (arith, s .count) in
       let o = first-of rs (nth aw 0 .queue) _ _ (s .level 0 (omega arith) .ring) (busy-at aw 0 (w .busy-two) k) in
       ups-front aw _ (o .0) (omega (arith, s .count)) (o .1)
+
+-- what `front` asks, once its match has told the side
+pub front-at : (b : OrderBook) (bd ak : List ℕ) {x y : models.Side} → x ≡ y → Fronted (sideOf x) b bd ak → Fronted (sideOf y) b bd ak
+front-at b bd ak e h = subst (λ (v : models.Side). Fronted (sideOf v) b bd ak) e h

@@ -8,11 +8,11 @@ use native.Mathlib.Omega.{arith}
 use lib.Dec.{eqb, ltb}
 use lib.ListN.{getD, length}
 use borrow.Author.Tests.{eq-eqb, eqb-false, eqb-true, ltb-false, ltb-true}
-use Rattle.rules.specs.Rules.{Order, also, ask, bid, keep, only, stays}
+use Rattle.rules.specs.Rules.{Order, Side, also, ask, bid, keep, only, stays}
 use Rattle.rules.specs.Whole.{one}
-use Rattle.records.specs.Rows.{Row, field}
+use Rattle.records.specs.Rows.{RecordAt, field}
 use Rattle.records.proofs.Cases.{lt?}
-use Rattle.search.specs.Seek.{lookup}
+use Rattle.search.specs.Seek.{entryFor}
 use Rattle.search.proofs.Entries.{found-at}
 use Rattle.arena.specs.Ring.{cut}
 use Rattle.arena.specs.Times.{times}
@@ -24,8 +24,8 @@ use Rattle.side.proofs.Leaving.{stands}
 use Rattle.side.proofs.Levels.{nth-times}
 use Rattle.side.proofs.Orders.{codes-times}
 use Rattle.side.proofs.Stored.{at-most-one, row-of}
-use Rattle.ledger.specs.Desk.{Desk, Leaves, deskBook, found}
-use Rattle.ledger.specs.Doors.{ApartAt, On, SideTold, dropIn, sideOf}
+use Rattle.ledger.specs.Desk.{LedgerIn, Leaves, storedBook, found}
+use Rattle.ledger.specs.Doors.{ApartAt, On, SideTold, dropIn}
 use Rattle.ledger.proofs.Best.{busy-at, some-of}
 
 -- of these codes only c may be the one found under id
@@ -58,18 +58,18 @@ module _ (rs : List ℕ) (fnd : ℕ → Bool) (id c : ℕ) (this : (x : ℕ) →
       go false e true f false g k = ap (λ (m : List (Order (Unit {0}))). orderAt rs fnd x ∷ m) (k (omega (arith, ap one e)) (omega arith))
       go false e false f b g k = ap (λ (m : List (Order (Unit {0}))). orderAt rs fnd x ∷ m) (k (omega (arith, ap one e)) (omega arith))
 
-module _ {rs bd ak se : List ℕ} {r f nb na : ℕ} (w : Desk rs bd ak se r f nb na) where
+module _ {rs bd ak se : List ℕ} {r f nb na : ℕ} (w : LedgerIn rs bd ak se r f nb na) where
   abbrev bw : List Lvl
   bw = levelsIn rs bd nb
 
   abbrev aw : List Lvl
   aw = levelsIn rs ak na
 
-  this-one : (id c : ℕ) → lookup se rs id ≡ c → (x : ℕ) → found se rs x ≡ true → field rs 0 x ≡ id → x ≡ c
-  this-one id c e x p q = sym (eqb-true (lookup se rs (field rs 0 x)) x p) ∙ (ap (lookup se rs) q ∙ e)
+  this-one : (id c : ℕ) → entryFor se rs id ≡ c → (x : ℕ) → found se rs x ≡ true → field rs 0 x ≡ id → x ≡ c
+  this-one id c e x p q = sym (eqb-true (entryFor se rs (field rs 0 x)) x p) ∙ (ap (entryFor se rs) q ∙ e)
 
   -- nothing is found: nothing leaves
-  pub cancel-none : (id : ℕ) → lookup se rs id ≡ 0 → Leaves (only (stays id) (deskBook rs bd ak se nb na)) rs bd ak se r f nb na
+  pub cancel-none : (id : ℕ) → entryFor se rs id ≡ 0 → Leaves (only (stays id) (storedBook rs bd ak se nb na)) rs bd ak se r f nb na
   unfolding only
   cancel-none id e = record {
     desk = w;
@@ -80,16 +80,16 @@ module _ {rs bd ak se : List ℕ} {r f nb na : ℕ} (w : Desk rs bd ak se r f nb
   }
 
   -- the found record has the id
-  pub cancel-drops : (b : Bool) (id c : ℕ) → lookup se rs id ≡ c → field rs 0 c ≡ id → On b c bw aw → dropIn (sideOf b) c rs se bw aw ≡ only (stays id) (deskBook rs bd ak se nb na)
+  pub cancel-drops : (sd : Side) (id c : ℕ) → entryFor se rs id ≡ c → field rs 0 c ≡ id → On sd c bw aw → dropIn sd c rs se bw aw ≡ only (stays id) (storedBook rs bd ak se nb na)
   unfolding only
-  cancel-drops true id c e q i =
-      let p : found se rs c ≡ true = eq-eqb (lookup se rs (field rs 0 c)) c (ap (lookup se rs) q ∙ e) in
+  cancel-drops ask id c e q i =
+      let p : found se rs c ≡ true = eq-eqb (entryFor se rs (field rs 0 c)) c (ap (entryFor se rs) q ∙ e) in
       λ k. record {
         bids = sym (keep-none rs (found se rs) id c (this-one id c e) (codes bid bw) (omega (arith, codes-times bid c bw, at-most-one (w .stored) c))) k;
         asks = sym (keep-cut rs (found se rs) id c (this-one id c e) (codes ask aw) p q i (omega (arith, at-most-one (w .stored) c))) k;
       }
-  cancel-drops false id c e q i =
-      let p : found se rs c ≡ true = eq-eqb (lookup se rs (field rs 0 c)) c (ap (lookup se rs) q ∙ e) in
+  cancel-drops bid id c e q i =
+      let p : found se rs c ≡ true = eq-eqb (entryFor se rs (field rs 0 c)) c (ap (entryFor se rs) q ∙ e) in
       λ k. record {
         bids = sym (keep-cut rs (found se rs) id c (this-one id c e) (codes bid bw) p q (omega (arith, codes-times bid c bw)) (omega (arith, codes-times bid c bw, at-most-one (w .stored) c))) k;
         asks = sym (keep-none rs (found se rs) id c (this-one id c e) (codes ask aw) (omega (arith, at-most-one (w .stored) c))) k;
@@ -113,34 +113,34 @@ module _ {rs bd ak se : List ℕ} {r f nb na : ℕ} (w : Desk rs bd ak se r f nb
       let x = some-of (nth bw (nb - 1) .queue) (busy-at bw (nb - 1) (w .busy) k) in
       omega (arith, p (x .0) c (omega (arith, x .1, nth-times (x .0) bw (nb - 1) k)) i, s .level (nb - 1) (omega arith) .priced (x .0) (x .1), s .level (nb - 1) (omega arith) .price)
 
-  pub on-ask : (c : ℕ) → 1 ≤ times c (ups bw) + times c (ups aw) → (nb ≡ 0) ⊎ (getD bd ((nb - 1) * 3) 0 < field rs 2 c) → On true c bw aw
+  pub on-ask : (c : ℕ) → 1 ≤ times c (ups bw) + times c (ups aw) → (nb ≡ 0) ⊎ (getD bd ((nb - 1) * 3) 0 < field rs 2 c) → On ask c bw aw
   on-ask c i h = go (ltb 0 (times c (ups bw))) refl
     where
       go : (t : Bool) → ltb 0 (times c (ups bw)) ≡ t → 1 ≤ times c (ups aw)
       go true e = let b = bid-low c (ltb-true 0 (times c (ups bw)) e) in ⊎-elim (λ z. absurd (let y : ⊥ = omega arith in y)) (λ z. absurd (let y : ⊥ = omega arith in y)) h
       go false e = omega (arith, ltb-false 0 (times c (ups bw)) e)
 
-  pub on-bid : (c : ℕ) → ApartAt rs bw aw → 1 ≤ times c (ups bw) + times c (ups aw) → 1 ≤ nb → field rs 2 c ≤ getD bd ((nb - 1) * 3) 0 → On false c bw aw
+  pub on-bid : (c : ℕ) → ApartAt rs bw aw → 1 ≤ times c (ups bw) + times c (ups aw) → 1 ≤ nb → field rs 2 c ≤ getD bd ((nb - 1) * 3) 0 → On bid c bw aw
   on-bid c p i h l = go (ltb 0 (times c (ups aw))) refl
     where
       go : (t : Bool) → ltb 0 (times c (ups aw)) ≡ t → 1 ≤ times c (ups bw)
       go true e = absurd (let z = ask-high c p (ltb-true 0 (times c (ups aw)) e) h in let y : ⊥ = omega arith in y)
       go false e = omega (arith, ltb-false 0 (times c (ups aw)) e)
 
-  pub on-told : (b : Bool) (c : ℕ) → ApartAt rs bw aw → 1 ≤ times c (ups bw) + times c (ups aw) → SideTold b rs bd nb c → On b c bw aw
-  on-told true c p i t = on-ask c i t
-  on-told false c p i t = on-bid c p i (t .0) (t .1)
+  pub on-told : (sd : Side) (c : ℕ) → ApartAt rs bw aw → 1 ≤ times c (ups bw) + times c (ups aw) → SideTold sd rs bd nb c → On sd c bw aw
+  on-told ask c p i t = on-ask c i t
+  on-told bid c p i t = on-bid c p i (t .0) (t .1)
 
-  module _ (id : ℕ) {c : ℕ} (e : c ≡ lookup se rs id) (d : c ≢ 0) where
+  module _ (id : ℕ) {c : ℕ} (e : c ≡ entryFor se rs id) (d : c ≢ 0) where
     pub found-rests : 1 ≤ times c (ups bw) + times c (ups aw)
     found-rests = rw e (w .held id (λ z. d (e ∙ z)))
 
-    pub found-row : Row rs c
+    pub found-row : RecordAt rs c
     found-row = row-of (w .stored) c (omega (arith, found-rests))
 
     found-id : field rs 0 c ≡ id
     found-id = ap (field rs 0) e ∙ found-at se rs (omega (arith, w .room)) id (λ z. d (e ∙ z)) .1
 
-    pub cancel-done : (b : Bool) → On b c bw aw → {rs′ bd′ ak′ se′ : List ℕ} {r′ f′ nb′ na′ : ℕ} → Leaves (dropIn (sideOf b) c rs se bw aw) rs′ bd′ ak′ se′ r′ f′ nb′ na′
-        → Leaves (only (stays id) (deskBook rs bd ak se nb na)) rs′ bd′ ak′ se′ r′ f′ nb′ na′
-    cancel-done b i l = record { desk = l .desk; book = l .book ∙ cancel-drops b id c (sym e) found-id i }
+    pub cancel-done : (sd : Side) → On sd c bw aw → {rs′ bd′ ak′ se′ : List ℕ} {r′ f′ nb′ na′ : ℕ} → Leaves (dropIn sd c rs se bw aw) rs′ bd′ ak′ se′ r′ f′ nb′ na′
+        → Leaves (only (stays id) (storedBook rs bd ak se nb na)) rs′ bd′ ak′ se′ r′ f′ nb′ na′
+    cancel-done sd i l = record { desk = l .desk; book = l .book ∙ cancel-drops sd id c (sym e) found-id i }

@@ -5,9 +5,9 @@ use mathlib.Core.List.{List}
 use mathlib.Core.Path.{sym, _∙_, _≡_}
 use native.Mathlib.Omega.{arith}
 use lib.ListN.{length}
-use Rattle.records.specs.Rows.{Row, field, places}
+use Rattle.records.specs.Rows.{RecordAt, field, recordCount}
 use Rattle.records.proofs.Rows.{row-length}
-use Rattle.search.specs.Seek.{Good, at, inside, lookup}
+use Rattle.search.specs.Seek.{Good, at, inside, entryFor}
 use Rattle.search.proofs.Entries.{row-inside}
 use Rattle.search.proofs.Frame.{frame, frame-lookup}
 use Rattle.search.proofs.Walks.{own, sound}
@@ -21,13 +21,13 @@ all-swapped a = record { stored = swapped (a .stored); busy = a .busy-two; busy-
 
 -- ## the search over records that changed
 module _ {n : ℕ} {rs lv ov se : List ℕ} {s t f r : ℕ} {ws vs : List Lvl} {fr : List ℕ} (a : Ledger n rs lv ov se s t f r ws vs fr) where
-  rows-of : (js : List ℕ) → length js ≡ n * 5 → places js ≡ n
+  rows-of : (js : List ℕ) → length js ≡ n * 5 → recordCount js ≡ n
   rows-of js e = omega (arith, e)
 
-  pub roomy : (js : List ℕ) → length js ≡ n * 5 → places js < length se
+  pub roomy : (js : List ℕ) → length js ≡ n * 5 → recordCount js < length se
   roomy js e = rw (rows-of js e) (a .room)
 
-  in-row : (js : List ℕ) → length js ≡ n * 5 → (x : ℕ) → Row rs x → inside js x ≡ true
+  in-row : (js : List ℕ) → length js ≡ n * 5 → (x : ℕ) → RecordAt rs x → inside js x ≡ true
   in-row js e x h = row-inside (row-length js (e ∙ sym (a .stored .rows)) h)
 
   -- what an entry stands for rests
@@ -46,9 +46,9 @@ module _ {n : ℕ} {rs lv ov se : List ℕ} {s t f r : ℕ} {ws vs : List Lvl} {
     pub good-frame : Good se js
     good-frame = frame se rs js kept-entries (a .good)
 
-    pub look-frame : (x : ℕ) → lookup se js x ≡ lookup se rs x
+    pub look-frame : (x : ℕ) → entryFor se js x ≡ entryFor se rs x
     look-frame x = frame-lookup se rs js kept-entries (a .good) x (omega (arith, a .room))
 
 -- ## the rows of its codes
-pub row-in : {n : ℕ} {rs lv ov se : List ℕ} {s t f r : ℕ} {ws vs : List Lvl} {fr : List ℕ} (a : Ledger n rs lv ov se s t f r ws vs fr) (js : List ℕ) (c : ℕ) → length js ≡ n * 5 → 1 ≤ times c (ups ws) + times c (ups vs) + times c fr → Row js c
+pub row-in : {n : ℕ} {rs lv ov se : List ℕ} {s t f r : ℕ} {ws vs : List Lvl} {fr : List ℕ} (a : Ledger n rs lv ov se s t f r ws vs fr) (js : List ℕ) (c : ℕ) → length js ≡ n * 5 → 1 ≤ times c (ups ws) + times c (ups vs) + times c fr → RecordAt js c
 row-in a js c e i = row-length js (e ∙ sym (a .stored .rows)) (row-of (a .stored) c i)

@@ -10,7 +10,7 @@ use lib.ListN.{length}
 use borrow.Author.Tests.{eq-eqb, eqb-false, eqb-true, ne-eqb}
 use Rattle.rules.specs.Rules.{Order, Side, hide, place}
 use Rattle.records.specs.Rows.{field}
-use Rattle.search.specs.Seek.{Entered, entering, lookup}
+use Rattle.search.specs.Seek.{Entered, entering, entryFor}
 use Rattle.search.proofs.Entering.{entered, entering-length}
 use Rattle.arena.specs.Times.{times}
 use Rattle.arena.proofs.Times.{one-self}
@@ -48,10 +48,10 @@ module _ {n : ℕ} {rs lv ov se : List ℕ} {s t c r : ℕ} {ws vs : List Lvl} {
       entered se rs′ id c (good-frame a rs′ (after .rows) (λ x i. same 0 x (omega arith) i)) (roomy a rs′ (after .rows))
       (row-in a rs′ c (after .rows) (omega (arith, one-self c))) (d .named)
 
-  looks : (x : ℕ) → (x ≡ id → ⊥) → lookup (entering se rs′ id c) rs′ x ≡ lookup se rs x
+  looks : (x : ℕ) → (x ≡ id → ⊥) → entryFor (entering se rs′ id c) rs′ x ≡ entryFor se rs x
   looks x h = enters .others x h ∙ look-frame a rs′ (after .rows) (λ y i. same 0 y (omega arith) i) x
 
-  look-id : lookup (entering se rs′ id c) rs′ id ≡ c
+  look-id : entryFor (entering se rs′ id c) rs′ id ≡ c
   look-id = enters .found
 
   long-se : length (entering se rs′ id c) ≡ length se
@@ -67,14 +67,14 @@ module _ {n : ℕ} {rs lv ov se : List ℕ} {s t c r : ℕ} {ws vs : List Lvl} {
     held = λ x h. go x h (eqb x id) refl;
   }
     where
-      go : (x : ℕ) → (lookup (entering se rs′ id c) rs′ x ≡ 0 → ⊥) → (b : Bool) → eqb x id ≡ b
-          → 1 ≤ times (lookup (entering se rs′ id c) rs′ x) (ups (resting c p ws)) + times (lookup (entering se rs′ id c) rs′ x) (ups vs)
+      go : (x : ℕ) → (entryFor (entering se rs′ id c) rs′ x ≡ 0 → ⊥) → (b : Bool) → eqb x id ≡ b
+          → 1 ≤ times (entryFor (entering se rs′ id c) rs′ x) (ups (resting c p ws)) + times (entryFor (entering se rs′ id c) rs′ x) (ups vs)
       go x h true e =
-          let z : lookup (entering se rs′ id c) rs′ x ≡ c = ap (lookup (entering se rs′ id c) rs′) (eqb-true x id e) ∙ look-id in
+          let z : entryFor (entering se rs′ id c) rs′ x ≡ c = ap (entryFor (entering se rs′ id c) rs′) (eqb-true x id e) ∙ look-id in
           rw z (omega (arith, resting-times c c p ws, one-self c))
       go x h false e =
           let z = looks x (eqb-false x id e) in
-          rw z (omega (arith, a .held x (λ y. h (z ∙ y)), resting-times (lookup se rs x) c p ws))
+          rw z (omega (arith, a .held x (λ y. h (z ∙ y)), resting-times (entryFor se rs x) c p ws))
 
   -- who is found then
   found-then : (x : ℕ) → 1 ≤ times x (ups ws) + times x (ups vs) → found (entering se rs′ id c) rs′ x ≡ found se rs x && not (eqb (field rs 0 x) id)
@@ -83,17 +83,17 @@ module _ {n : ℕ} {rs lv ov se : List ℕ} {s t c r : ℕ} {ws vs : List Lvl} {
       go : (b : Bool) → eqb (field rs 0 x) id ≡ b → found (entering se rs′ id c) rs′ x ≡ found se rs x && not b
       go true e =
           let z : field rs′ 0 x ≡ id = same 0 x (omega arith) i ∙ eqb-true (field rs 0 x) id e in
-          let y : lookup (entering se rs′ id c) rs′ (field rs′ 0 x) ≡ c = ap (lookup (entering se rs′ id c) rs′) z ∙ look-id in
+          let y : entryFor (entering se rs′ id c) rs′ (field rs′ 0 x) ≡ c = ap (entryFor (entering se rs′ id c) rs′) z ∙ look-id in
           rw y (ne-eqb c x (λ o. off x i (sym o)) ∙ sym (and-false (found se rs x)))
       go false e =
-          let y : lookup (entering se rs′ id c) rs′ (field rs′ 0 x) ≡ lookup se rs (field rs 0 x) =
-          ap (lookup (entering se rs′ id c) rs′) (same 0 x (omega arith) i) ∙ looks (field rs 0 x) (eqb-false (field rs 0 x) id e) in
+          let y : entryFor (entering se rs′ id c) rs′ (field rs′ 0 x) ≡ entryFor se rs (field rs 0 x) =
+          ap (entryFor (entering se rs′ id c) rs′) (same 0 x (omega arith) i) ∙ looks (field rs 0 x) (eqb-false (field rs 0 x) id e) in
           rw y (sym (and-true (found se rs x)))
 
   new-order : orderAt rs′ (found (entering se rs′ id c) rs′) c ≡ record { id = id; quantity = q; price = p; found = true; tag = tt }
   new-order =
-      let y : lookup (entering se rs′ id c) rs′ (field rs′ 0 c) ≡ c = ap (lookup (entering se rs′ id c) rs′) (d .named) ∙ look-id in
-      let z : found (entering se rs′ id c) rs′ c ≡ true = eq-eqb (lookup (entering se rs′ id c) rs′ (field rs′ 0 c)) c y in
+      let y : entryFor (entering se rs′ id c) rs′ (field rs′ 0 c) ≡ c = ap (entryFor (entering se rs′ id c) rs′) (d .named) ∙ look-id in
+      let z : found (entering se rs′ id c) rs′ c ≡ true = eq-eqb (entryFor (entering se rs′ id c) rs′ (field rs′ 0 c)) c y in
       λ k. record { id = d .named k; quantity = d .holding k; price = d .priced k; found = z k; tag = tt }
 
   pub rest-own : (sd : Side) → orders rs′ (found (entering se rs′ id c) rs′) (codes sd (resting c p ws)) ≡ rested sd id q p (orders rs (found se rs) (codes sd ws))

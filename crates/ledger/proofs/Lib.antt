@@ -6,5 +6,4 @@ pub mod Desk
 pub mod Best
 pub mod Apart
 pub mod Cancelling
-pub mod Lessening
 pub mod Beginning

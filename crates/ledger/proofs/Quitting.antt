@@ -9,8 +9,8 @@ use lib.Dec.{eqb}
 use lib.ListN.{length}
 use borrow.Author.Tests.{eqb-false, eqb-true, ne-eqb}
 use Rattle.rules.specs.Rules.{Side}
-use Rattle.records.specs.Rows.{Row, field}
-use Rattle.search.specs.Seek.{Forgotten, Pointing, forgetting, lookup}
+use Rattle.records.specs.Rows.{RecordAt, field}
+use Rattle.search.specs.Seek.{Forgotten, Pointing, forgetting, entryFor}
 use Rattle.search.proofs.Entries.{pointing}
 use Rattle.search.proofs.Forgetting.{forgetting-length, forgotten}
 use Rattle.arena.specs.Ring.{cut}
@@ -38,12 +38,12 @@ module _ {n : ℕ} {rs lv ov se : List ℕ} {s t f r : ℕ} {ws vs : List Lvl} {
   one-c = omega (arith, at-most-one (a .stored) c)
 
   -- what is found after the search forgot c
-  forgot : (x : ℕ) → ((lookup se rs x ≡ c) × (lookup se′ rs x ≡ 0)) ⊎ ((lookup se rs x ≡ c → ⊥) × (lookup se′ rs x ≡ lookup se rs x))
-  forgot x = go (eqb (lookup se rs x) c) refl
+  forgot : (x : ℕ) → ((entryFor se rs x ≡ c) × (entryFor se′ rs x ≡ 0)) ⊎ ((entryFor se rs x ≡ c → ⊥) × (entryFor se′ rs x ≡ entryFor se rs x))
+  forgot x = go (eqb (entryFor se rs x) c) refl
     where
-      go : (b : Bool) → eqb (lookup se rs x) c ≡ b → ((lookup se rs x ≡ c) × (lookup se′ rs x ≡ 0)) ⊎ ((lookup se rs x ≡ c → ⊥) × (lookup se′ rs x ≡ lookup se rs x))
-      go true e = let z = eqb-true (lookup se rs x) c e in inl (z, o .gone x z)
-      go false e = let z = eqb-false (lookup se rs x) c e in inr (z, o .others x z)
+      go : (b : Bool) → eqb (entryFor se rs x) c ≡ b → ((entryFor se rs x ≡ c) × (entryFor se′ rs x ≡ 0)) ⊎ ((entryFor se rs x ≡ c → ⊥) × (entryFor se′ rs x ≡ entryFor se rs x))
+      go true e = let z = eqb-true (entryFor se rs x) c e in inl (z, o .gone x z)
+      go false e = let z = eqb-false (entryFor se rs x) c e in inr (z, o .others x z)
 
   mid : Ledger n rs lv ov se′ s t f r ws vs fr
   mid = record {
@@ -55,7 +55,7 @@ module _ {n : ℕ} {rs lv ov se : List ℕ} {s t f r : ℕ} {ws vs : List Lvl} {
     held = λ x h. ⊎-elim (λ z. absurd (h (z .1))) (λ z. rw (z .1) (a .held x (λ y. h (z .1 ∙ y)))) (forgot x);
   }
 
-  looks-d : (x : ℕ) → lookup se′ rs′ x ≡ lookup se′ rs x
+  looks-d : (x : ℕ) → entryFor se′ rs′ x ≡ entryFor se′ rs x
   looks-d x = look-frame mid rs′ (left .rows) (λ y j. d .ids y) x
 
   pub discard-all : Ledger n rs′ lv′ ov se′ s′ t f′ (r - 1) (without c ws) vs (c ∷ fr)
@@ -66,12 +66,12 @@ module _ {n : ℕ} {rs lv ov se : List ℕ} {s t f r : ℕ} {ws vs : List Lvl} {
     good = good-frame mid rs′ (left .rows) (λ y j. d .ids y);
     room = omega (arith, a .room);
     held = λ x h. rw (looks-d x) (⊎-elim (λ z. absurd (h (looks-d x ∙ z .1)))
-        (λ z. rw (z .1) (omega (arith, a .held x (λ y. h (looks-d x ∙ (z .1 ∙ y))), without-times (lookup se rs x) c ws i one-c, one-other (lookup se rs x) c (z .0)))) (forgot x));
+        (λ z. rw (z .1) (omega (arith, a .held x (λ y. h (looks-d x ∙ (z .1 ∙ y))), without-times (entryFor se rs x) c ws i one-c, one-other (entryFor se rs x) c (z .0)))) (forgot x));
   }
 
   found-left : (x : ℕ) → 1 ≤ times x (ups ws) + times x (ups vs) → x ≢ c → found se′ rs′ x ≡ found se rs x
   found-left x j e =
-      let y : lookup se′ rs′ (field rs′ 0 x) ≡ lookup se′ rs (field rs 0 x) = ap (lookup se′ rs′) (d .ids x) ∙ looks-d (field rs 0 x) in
+      let y : entryFor se′ rs′ (field rs′ 0 x) ≡ entryFor se′ rs (field rs 0 x) = ap (entryFor se′ rs′) (d .ids x) ∙ looks-d (field rs 0 x) in
       let p : 1 ≤ x = row-of (a .stored) x (omega arith) .some in
       rw y (⊎-elim (λ z. rw (z .0, z .1) (ne-eqb 0 x (λ q. omega arith) ∙ sym (ne-eqb c x (λ q. e (sym q))))) (λ z. rw (z .1) refl) (forgot (field rs 0 x)))
 
@@ -95,7 +95,7 @@ module _ {n : ℕ} {rs lv ov se : List ℕ} {s t f r : ℕ} {ws vs : List Lvl} {
       off-c x j e = omega (arith, codes-times sd c vs, at-most-one (a .stored) c, ap (λ (m : ℕ). times m (codes sd vs)) e)
 
 module _ {rs lv se : List ℕ} {s f c : ℕ} (h : CanQuit rs lv se s f c) where
-  pub quit-needs : Pointing se rs × (0 < length se) × Row rs c
+  pub quit-needs : Pointing se rs × (0 < length se) × RecordAt rs c
   quit-needs = (pointing (h .all .good), omega (arith, h .all .room), row-of (h .all .stored) c (omega (arith, h .inside)))
 
   pub quits : {s′ f′ : ℕ} {rs′ lv′ se′ : List ℕ} → se′ ≡ forgetting se rs c → Discards rs lv s f c rs′ lv′ s′ f′ → Quits rs lv se s f c rs′ lv′ se′ s′ f′

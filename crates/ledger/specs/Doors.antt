@@ -1,23 +1,22 @@
 -- What the doors of the book ask, and what they make of the rules' book. Assumes nothing.
-use Prim.Native.Nat.{ℕ, _+_, _-_, _<_, _≤_}
-use mathlib.Core.Bool.{Bool, cond, false, true}
-use mathlib.Core.List.{List, map, [], _∷_}
+use Prim.Native.Nat.{ℕ, _*_, _+_, _-_, _<_, _≤_}
+use mathlib.Core.Bool.{true}
+use mathlib.Core.List.{List, map, _∷_}
 use mathlib.Core.Logic.{_⊎_}
 use mathlib.Core.Path.{_≡_}
-use lib.Dec.{eqb}
-use Rattle.rules.specs.Rules.{Book, Order, Side, ask, bid, hide, place, withLeft}
+use lib.ListN.{length}
+use Rattle.rules.specs.Rules.{Book, Order, Side, ask, bid, hide, place}
 use Rattle.records.specs.Rows.{field}
-use Rattle.arena.specs.Links.{priceOf}
+use Rattle.arena.specs.Links.{headOf, priceOf}
 use Rattle.arena.specs.Ring.{cut}
 use Rattle.arena.specs.Times.{times}
 use Rattle.side.specs.Doors.{RoomFor, resting, without}
 use Rattle.side.specs.Levels.{Lvl, ups}
-use Rattle.side.specs.Orders.{codes, orderAt, orders}
+use Rattle.side.specs.Orders.{codes, orders}
+use Rattle.side.specs.Read.{levelsIn}
+use Rattle.ledger.specs.declared.OrderBook.{OrderBook}
+use Rattle.ledger.specs.Stock.{Stock}
 use Rattle.ledger.specs.Desk.{Ledger, found}
-
-abbrev pub sideOf : Bool → Side
-sideOf true = ask
-sideOf false = bid
 
 -- ## An order comes to rest
 
@@ -31,21 +30,28 @@ restIn bid id q p k = record { bids = rested bid id q p (k .bids); asks = map (h
 restIn ask id q p k = record { bids = map (hide id) (k .bids); asks = rested ask id q p (k .asks) }
 
 -- a price new to its side has room there
-abbrev pub RoomOn : Bool → List ℕ → List ℕ → ℕ → ℕ → ℕ → Type 0
-RoomOn true bd ak nb na p = RoomFor ak na p
-RoomOn false bd ak nb na p = RoomFor bd nb p
+abbrev pub RoomOn : Side → Stock → ℕ → Type 0
+RoomOn bid k p = RoomFor (k .bids) (k .book .bids) p
+RoomOn ask k p = RoomFor (k .asks) (k .book .asks) p
 
 -- ## An order leaves
 
--- the code c rests on the side
-abbrev pub On : Bool → ℕ → List Lvl → List Lvl → Type 0
-On true c bw aw = 1 ≤ times c (ups aw)
-On false c bw aw = 1 ≤ times c (ups bw)
+-- the code c rests on the side: bw are the levels of the bids, aw those of the asks
+abbrev pub On : Side → ℕ → List Lvl → List Lvl → Type 0
+On bid c bw aw = 1 ≤ times c (ups bw)
+On ask c bw aw = 1 ≤ times c (ups aw)
+
+abbrev pub RestsOn : Side → ℕ → Stock → Type 0
+RestsOn sd c k = On sd c (levelsIn (k .records) (k .bids) (k .book .bids)) (levelsIn (k .records) (k .asks) (k .book .asks))
 
 -- the order of code c leaves side sd
 abbrev pub dropIn : Side → ℕ → List ℕ → List ℕ → List Lvl → List Lvl → Book (Unit {0})
 dropIn bid c rs se bw aw = record { bids = orders rs (found se rs) (cut c (codes bid bw)); asks = orders rs (found se rs) (codes ask aw) }
 dropIn ask c rs se bw aw = record { bids = orders rs (found se rs) (codes bid bw); asks = orders rs (found se rs) (cut c (codes ask aw)) }
+
+abbrev pub dropped : Side → ℕ → Stock → Book (Unit {0})
+dropped sd c k =
+    dropIn sd c (k .records) (k .search) (levelsIn (k .records) (k .bids) (k .book .bids)) (levelsIn (k .records) (k .asks) (k .book .asks))
 
 -- ## A cancel
 
@@ -53,25 +59,25 @@ dropIn ask c rs se bw aw = record { bids = orders rs (found se rs) (codes bid bw
 abbrev pub ApartAt : List ℕ → List Lvl → List Lvl → Type 0
 ApartAt rs bw aw = (x y : ℕ) → 1 ≤ times x (ups bw) → 1 ≤ times y (ups aw) → field rs 2 x < field rs 2 y
 
+abbrev pub ApartIn : Stock → Type 0
+ApartIn k = ApartAt (k .records) (levelsIn (k .records) (k .bids) (k .book .bids)) (levelsIn (k .records) (k .asks) (k .book .asks))
+
 -- what the highest bid says of the side that c rests on
-abbrev pub SideTold : Bool → List ℕ → List ℕ → ℕ → ℕ → Type 0
-SideTold true rs bd n c = (n ≡ 0) ⊎ (priceOf bd (n - 1) < field rs 2 c)
-SideTold false rs bd n c = (1 ≤ n) × (field rs 2 c ≤ priceOf bd (n - 1))
+abbrev pub SideTold : Side → List ℕ → List ℕ → ℕ → ℕ → Type 0
+SideTold bid rs bd n c = (1 ≤ n) × (field rs 2 c ≤ priceOf bd (n - 1))
+SideTold ask rs bd n c = (n ≡ 0) ⊎ (priceOf bd (n - 1) < field rs 2 c)
 
--- ## The best order, and a maker that has less left
+-- ## The best order
 
--- the row of the best price
-abbrev pub frontRow : Bool → ℕ → ℕ
-frontRow true n = 0
-frontRow false n = n - 1
+-- the side has a row
+abbrev pub Fronted : Side → OrderBook → List ℕ → List ℕ → Type 0
+Fronted bid b bd ak = (1 ≤ b .bids) × (b .bids * 3 ≤ length bd)
+Fronted ask b bd ak = (1 ≤ b .asks) × (b .asks * 3 ≤ length ak)
 
--- the order of code c with q left, the others as they are
-abbrev pub lessOrders : List ℕ → (ℕ → Bool) → ℕ → ℕ → List ℕ → List (Order (Unit {0}))
-lessOrders rs fnd c q [] = []
-lessOrders rs fnd c q (x ∷ l) = cond (eqb x c) (withLeft (orderAt rs fnd x) q) (orderAt rs fnd x) ∷ lessOrders rs fnd c q l
-
-abbrev pub lessIn : ℕ → ℕ → List ℕ → List ℕ → List Lvl → List Lvl → Book (Unit {0})
-lessIn c q rs se bw aw = record { bids = lessOrders rs (found se rs) c q (codes bid bw); asks = lessOrders rs (found se rs) c q (codes ask aw) }
+-- the first code of its best price's queue
+abbrev pub frontOf : Side → OrderBook → List ℕ → List ℕ → ℕ
+frontOf bid b bd ak = headOf bd (b .bids - 1)
+frontOf ask b bd ak = headOf ak 0
 
 -- ## The doors of one side, for whatever the other side is
 

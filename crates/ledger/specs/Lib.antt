@@ -1,2 +1,3 @@
+pub mod Stock
 pub mod Desk
 pub mod Doors

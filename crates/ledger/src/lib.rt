@@ -2,18 +2,20 @@
 // `records`, `bids`, `asks` and `search` are lent; `OrderBook` has the counts and the first free place.
 ghost use mathlib.Core.Path.{_≡_};
 ghost use mathlib.Core.List.{[]};
-ghost use Prim.Native.Nat.{_+_, _*_, _<_, _≤_};
+ghost use Prim.Native.Nat.{_*_, _<_, _≤_};
 ghost use lib.ListN.{length};
 ghost use Rattle.rules.specs.Rules.{stays, only};
-ghost use Rattle.records.specs.Rows.{Row, places};
-ghost use Rattle.arena.specs.Times.{times};
-ghost use Rattle.arena.specs.Links.{headOf};
-ghost use Rattle.side.specs.Levels.{ups};
-ghost use Rattle.side.specs.Read.{levelsIn};
-ghost use Rattle.ledger.specs.Desk.{Desk, deskBook, Leaves};
-ghost use Rattle.ledger.specs.Doors.{CanJoin, Joins, CanQuit, Quits, restIn, sideOf, dropIn, RoomOn, On, ApartAt, SideTold, frontRow, lessIn};
+ghost use Rattle.models.specs.Readings.{sideOf};
+ghost use Rattle.records.specs.Rows.{RecordAt, recordCount};
+ghost use Rattle.ledger.specs.Stock.{stock};
+ghost use Rattle.ledger.specs.Desk.{Tidy, readBook, LeavesAs};
+ghost use Rattle.ledger.specs.Doors.{CanJoin, Joins, CanQuit, Quits, restIn, RoomOn, RestsOn, dropped, ApartIn, SideTold, Fronted, frontOf};
 use arena::HEAD;
 use arena::ROW;
+use models::Id;
+use models::Price;
+use models::Quantity;
+use models::Side;
 use records::PRICE;
 use records::load;
 
@@ -33,16 +35,16 @@ pub fn join(
     search: &mut [u64],
     n: usize,
     free: u64,
-    id: u64,
-    quantity: u64,
-    price: u64,
+    id: Id,
+    quantity: Quantity,
+    price: Price,
 ) -> side::Ends
-    requires { ⌜ CanJoin (now records) (now levels) (now search) n free price ⌝ }
-    ensures { λ r. ⌜ Joins (now (records .entry)) (now (levels .entry)) (now (search .entry)) n free id quantity price
+    requires { ⌜ CanJoin (now records) (now levels) (now search) n free (price .0) ⌝ }
+    ensures { λ r. ⌜ Joins (now (records .entry)) (now (levels .entry)) (now (search .entry)) n free (id .0) (quantity .0) (price .0)
         (now (records .exit)) (now (levels .exit)) (now (search .exit)) (r .rows) (r .free) ⌝ }
 {
     let e = side::rest(records, levels, n, free, id, quantity, price);
-    search::insert(search, records, id, free);
+    search::insert(search, records, id.0, free);
     e
 }
 
@@ -70,32 +72,37 @@ pub fn rest(
     asks: &mut [u64],
     search: &mut [u64],
     b: OrderBook,
-    ask: bool,
-    id: u64,
-    quantity: u64,
-    price: u64,
+    side: Side,
+    id: Id,
+    quantity: Quantity,
+    price: Price,
 ) -> OrderBook
-    requires { ⌜ Desk (now records) (now bids) (now asks) (now search) (b .resting) (b .free) (b .bids) (b .asks)
-        × (b .resting < places (now records)) × RoomOn ask (now bids) (now asks) (b .bids) (b .asks) price ⌝ }
-    ensures { λ r. ⌜ Leaves (restIn (sideOf ask) id quantity price (deskBook (now (records .entry)) (now (bids .entry)) (now (asks .entry)) (now (search .entry)) (b .bids) (b .asks)))
-        (now (records .exit)) (now (bids .exit)) (now (asks .exit)) (now (search .exit)) (r .resting) (r .free) (r .bids) (r .asks) ⌝ }
+    requires { ⌜ Tidy (stock b (now records) (now bids) (now asks) (now search)) × (b .resting < recordCount (now records))
+        × RoomOn (sideOf side) (stock b (now records) (now bids) (now asks) (now search)) (price .0) ⌝ }
+    ensures { λ r. ⌜ LeavesAs (restIn (sideOf side) (id .0) (quantity .0) (price .0)
+        (readBook (stock b (now (records .entry)) (now (bids .entry)) (now (asks .entry)) (now (search .entry)))))
+        (stock r (now (records .exit)) (now (bids .exit)) (now (asks .exit)) (now (search .exit))) ⌝ }
 {
     let resting = b.resting + 1;
-    if ask {
-        let e = join(records, asks, search, b.asks, b.free, id, quantity, price);
-        return OrderBook {
-            resting,
-            free: e.free,
-            bids: b.bids,
-            asks: e.rows,
-        };
-    }
-    let e = join(records, bids, search, b.bids, b.free, id, quantity, price);
-    OrderBook {
-        resting,
-        free: e.free,
-        bids: e.rows,
-        asks: b.asks,
+    match side {
+        Side::Bid => {
+            let e = join(records, bids, search, b.bids, b.free, id, quantity, price);
+            OrderBook {
+                resting,
+                free: e.free,
+                bids: e.rows,
+                asks: b.asks,
+            }
+        }
+        Side::Ask => {
+            let e = join(records, asks, search, b.asks, b.free, id, quantity, price);
+            OrderBook {
+                resting,
+                free: e.free,
+                bids: b.bids,
+                asks: e.rows,
+            }
+        }
     }
 }
 
@@ -106,47 +113,50 @@ pub fn discard(
     asks: &mut [u64],
     search: &mut [u64],
     b: OrderBook,
-    ask: bool,
+    side: Side,
     c: u64,
 ) -> OrderBook
-    requires { ⌜ Desk (now records) (now bids) (now asks) (now search) (b .resting) (b .free) (b .bids) (b .asks)
-        × On ask c (levelsIn (now records) (now bids) (b .bids)) (levelsIn (now records) (now asks) (b .asks)) ⌝ }
-    ensures { λ r. ⌜ Leaves (dropIn (sideOf ask) c (now (records .entry)) (now (search .entry))
-        (levelsIn (now (records .entry)) (now (bids .entry)) (b .bids)) (levelsIn (now (records .entry)) (now (asks .entry)) (b .asks)))
-        (now (records .exit)) (now (bids .exit)) (now (asks .exit)) (now (search .exit)) (r .resting) (r .free) (r .bids) (r .asks) ⌝ }
+    requires { ⌜ Tidy (stock b (now records) (now bids) (now asks) (now search))
+        × RestsOn (sideOf side) c (stock b (now records) (now bids) (now asks) (now search)) ⌝ }
+    ensures { λ r. ⌜ LeavesAs (dropped (sideOf side) c (stock b (now (records .entry)) (now (bids .entry)) (now (asks .entry)) (now (search .entry))))
+        (stock r (now (records .exit)) (now (bids .exit)) (now (asks .exit)) (now (search .exit))) ⌝ }
 {
     let resting = b.resting - 1;
-    if ask {
-        let e = quit(records, asks, search, b.asks, b.free, c);
-        return OrderBook {
-            resting,
-            free: e.free,
-            bids: b.bids,
-            asks: e.rows,
-        };
-    }
-    let e = quit(records, bids, search, b.bids, b.free, c);
-    OrderBook {
-        resting,
-        free: e.free,
-        bids: e.rows,
-        asks: b.asks,
+    match side {
+        Side::Bid => {
+            let e = quit(records, bids, search, b.bids, b.free, c);
+            OrderBook {
+                resting,
+                free: e.free,
+                bids: e.rows,
+                asks: b.asks,
+            }
+        }
+        Side::Ask => {
+            let e = quit(records, asks, search, b.asks, b.free, c);
+            OrderBook {
+                resting,
+                free: e.free,
+                bids: b.bids,
+                asks: e.rows,
+            }
+        }
     }
 }
 
-// Whether the resting order of code `c` is an ask: it is dearer than the highest bid.
-pub fn on_asks(records: &[u64], bids: &[u64], n: usize, c: u64) -> bool
-    requires { ⌜ Row (now records) c × (n * 3 ≤ length (now bids)) ⌝ }
-    ensures { λ r. ⌜ SideTold r (now (records .entry)) (now (bids .entry)) n c ⌝ }
+// The side that the resting order of code `c` is on: an ask is dearer than the highest bid.
+pub fn side_at(records: &[u64], bids: &[u64], n: usize, c: u64) -> Side
+    requires { ⌜ RecordAt (now records) c × (n * 3 ≤ length (now bids)) ⌝ }
+    ensures { λ r. ⌜ SideTold (sideOf r) (now (records .entry)) (now (bids .entry)) n c ⌝ }
 {
     if n == 0 {
-        return true;
+        return Side::Ask;
     }
     let top = bids[(n - 1) * ROW];
     if top < load(records, PRICE, c) {
-        return true;
+        return Side::Ask;
     }
-    false
+    Side::Bid
 }
 
 // The order that the search finds under `id` leaves, if there is one.
@@ -156,56 +166,37 @@ pub fn cancel(
     asks: &mut [u64],
     search: &mut [u64],
     b: OrderBook,
-    id: u64,
+    id: Id,
 ) -> OrderBook
-    requires { ⌜ Desk (now records) (now bids) (now asks) (now search) (b .resting) (b .free) (b .bids) (b .asks)
-        × ApartAt (now records) (levelsIn (now records) (now bids) (b .bids)) (levelsIn (now records) (now asks) (b .asks)) ⌝ }
-    ensures { λ r. ⌜ Leaves (only (stays id) (deskBook (now (records .entry)) (now (bids .entry)) (now (asks .entry)) (now (search .entry)) (b .bids) (b .asks)))
-        (now (records .exit)) (now (bids .exit)) (now (asks .exit)) (now (search .exit)) (r .resting) (r .free) (r .bids) (r .asks) ⌝ }
+    requires { ⌜ Tidy (stock b (now records) (now bids) (now asks) (now search)) × ApartIn (stock b (now records) (now bids) (now asks) (now search)) ⌝ }
+    ensures { λ r. ⌜ LeavesAs (only (stays (id .0)) (readBook (stock b (now (records .entry)) (now (bids .entry)) (now (asks .entry)) (now (search .entry)))))
+        (stock r (now (records .exit)) (now (bids .exit)) (now (asks .exit)) (now (search .exit))) ⌝ }
 {
-    let w = search::find(search, records, id);
+    let w = search::find(search, records, id.0);
     let c = w.entry;
     if c == 0 {
         return b;
     }
-    let ask = on_asks(records, bids, b.bids, c);
-    discard(records, bids, asks, search, b, ask, c)
+    let side = side_at(records, bids, b.bids, c);
+    discard(records, bids, asks, search, b, side, c)
 }
 
 // The code of the best order of a side.
-pub fn front(levels: &[u64], n: usize, ask: bool) -> u64
-    requires { ⌜ (1 ≤ n) × (n * 3 ≤ length (now levels)) ⌝ }
-    ensures { λ r. ⌜ r ≡ headOf (now (levels .entry)) (frontRow ask n) ⌝ }
+pub fn front(bids: &[u64], asks: &[u64], b: OrderBook, side: Side) -> u64
+    requires { ⌜ Fronted (sideOf side) b (now bids) (now asks) ⌝ }
+    ensures { λ r. ⌜ r ≡ frontOf (sideOf side) b (now (bids .entry)) (now (asks .entry)) ⌝ }
 {
-    if ask {
-        return levels[HEAD];
+    match side {
+        Side::Bid => bids[(b.bids - 1) * ROW + HEAD],
+        Side::Ask => asks[HEAD],
     }
-    levels[(n - 1) * ROW + HEAD]
-}
-
-// The order of code `c` has `quantity` left.
-pub fn lessen(
-    records: &mut [u64],
-    bids: &[u64],
-    asks: &[u64],
-    search: &[u64],
-    b: OrderBook,
-    c: u64,
-    quantity: u64,
-)
-    requires { ⌜ Desk (now records) (now bids) (now asks) (now search) (b .resting) (b .free) (b .bids) (b .asks)
-        × (1 ≤ times c (ups (levelsIn (now records) (now bids) (b .bids))) + times c (ups (levelsIn (now records) (now asks) (b .asks)))) ⌝ }
-    ensures { λ _. ⌜ Leaves (lessIn c quantity (now (records .entry)) (now (search .entry))
-        (levelsIn (now (records .entry)) (now (bids .entry)) (b .bids)) (levelsIn (now (records .entry)) (now (asks .entry)) (b .asks)))
-        (now (records .exit)) (now (bids .entry)) (now (asks .entry)) (now (search .entry)) (b .resting) (b .free) (b .bids) (b .asks) ⌝ }
-{
-    side::lessen(records, c, quantity);
 }
 
 // A fresh book, whatever the storage held.
 pub fn fresh(records: &mut [u64], bids: &[u64], asks: &[u64], search: &mut [u64]) -> OrderBook
-    requires { ⌜ (length (now records) ≡ places (now records) * 5) × (places (now records) < length (now search)) ⌝ }
-    ensures { λ r. ⌜ Leaves (record { bids = []; asks = [] }) (now (records .exit)) (now (bids .entry)) (now (asks .entry)) (now (search .exit)) (r .resting) (r .free) (r .bids) (r .asks) ⌝ }
+    requires { ⌜ (length (now records) ≡ recordCount (now records) * 5) × (recordCount (now records) < length (now search)) ⌝ }
+    ensures { λ r. ⌜ LeavesAs (record { bids = []; asks = [] })
+        (stock r (now (records .exit)) (now (bids .entry)) (now (asks .entry)) (now (search .exit))) ⌝ }
 {
     let free = arena::free_all(records);
     search::clear(search);

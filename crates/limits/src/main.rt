@@ -7,7 +7,7 @@ use lists::LISTS;
 use lists::Next;
 use lists::next_of;
 use models::OrderType;
-use script::Desk;
+use script::OwnDesk;
 use script::FILLS;
 use tell::line;
 use tell::number;
@@ -41,13 +41,13 @@ fn numbered(i: u64, apart: bool) -> OrderType {
     }
 }
 
-fn next_desk(d: Desk, o: OrderType) -> Desk {
+fn next_desk(d: OwnDesk, o: OrderType) -> OwnDesk {
     let done = script::execute(d, FILLS, o);
     done.desk
 }
 
 // The orders 1 to n, of which nothing is told but where the book stands after them.
-fn many(first: Desk, n: u64, apart: bool) -> Desk {
+fn many(first: OwnDesk, n: u64, apart: bool) -> OwnDesk {
     let mut d = first;
     let mut i = 0;
     while i < n {
@@ -60,7 +60,7 @@ fn many(first: Desk, n: u64, apart: bool) -> Desk {
 }
 
 // Row i of a list.
-fn row(d: Desk, list: u64, i: u64) -> Desk {
+fn row(d: OwnDesk, list: u64, i: u64) -> OwnDesk {
     let next = next_of(list, i);
     match next {
         Next::Fresh(on) => {

@@ -7,7 +7,7 @@ use native.Mathlib.Omega.{arith}
 use lib.Dec.{leb}
 use lib.ListN.{length}
 use Rattle.rules.specs.Rules.{Fill, Order, lastPrice, lastQuantity, matching}
-use Rattle.records.specs.Rows.{Row, field, put}
+use Rattle.records.specs.Rows.{RecordAt, field, put}
 use Rattle.records.proofs.Rows.{field-record}
 use Rattle.models.specs.Readings.{sideOf}
 use Rattle.models.specs.Rows.{Place, fillRow, written}
@@ -17,7 +17,7 @@ use Rattle.arena.proofs.Times.{one-self}
 use Rattle.side.specs.Orders.{orderAt, orders}
 use Rattle.side.proofs.Orders.{orders-frame}
 use Rattle.survey.specs.declared.Taker.{Taker}
-use Rattle.survey.specs.Makers.{share}
+use Rattle.survey.specs.Makers.{gift}
 use Rattle.survey.specs.Taker.{meets, takerOf}
 use Rattle.survey.proofs.Tallied.{next-fill}
 use Rattle.matching.specs.declared.Last.{Last}
@@ -75,10 +75,10 @@ module _ {u : Taker} {c : ℕ} {p : Progress} {rs out rs′ out′ : List ℕ} {
   pub gives-wide : Place fillRow out (p .fills) → length out′ ≡ length out
   gives-wide h = rw (g .filled) (written-length fillRow (fill-faithful .long) out (p .fills) _ (omega arith))
 
-  pub gives-other : (x : ℕ) → Row rs c → 1 ≤ x → (x ≡ c → ⊥) → (f : ℕ) → f < 5 → field rs′ f x ≡ field rs f x
+  pub gives-other : (x : ℕ) → RecordAt rs c → 1 ≤ x → (x ≡ c → ⊥) → (f : ℕ) → f < 5 → field rs′ f x ≡ field rs f x
   gives-other x r h d f i = rw (g .lowered) (field-record rs 1 f c x _ (omega arith) i (r .some) h d)
 
-  module _ (cs : List ℕ) (e : meets u (field rs 2 c) ≡ true) (o : (x : ℕ) → times x (c ∷ cs) ≤ 1) (r : (x : ℕ) → 1 ≤ times x (c ∷ cs) → Row rs x) where
+  module _ (cs : List ℕ) (e : meets u (field rs 2 c) ≡ true) (o : (x : ℕ) → times x (c ∷ cs) ≤ 1) (r : (x : ℕ) → 1 ≤ times x (c ∷ cs) → RecordAt rs x) where
     pub gives-apart : (x : ℕ) → 1 ≤ times x cs → x ≡ c → ⊥
     gives-apart x i d = omega (arith, o x, ap (λ (m : ℕ). times m (c ∷ cs)) d, one-self c, ap (λ (m : ℕ). times m cs) d)
 
@@ -94,7 +94,7 @@ module _ {u : Taker} {c : ℕ} {p : Progress} {rs out rs′ out′ : List ℕ} {
         → fillsFrom u rs (p .left .0) (c ∷ cs) room fnd ≡ fillAt u rs (p .left .0) c ∷ fillsFrom u rs′ (p′ .left .0) cs room fnd
     gives-fills h q room fnd =
         let t = takerOf room u in
-        let w = p .left .0 - share rs (p .left .0) c in
+        let w = p .left .0 - gift rs (p .left .0) c in
         let a : p′ .left .0 ≡ w = ap (λ (z : Progress). z .left .0) (g .progress) in
         let b : (matching t w (orders rs fnd cs)) .fills ≡ fillsFrom u rs′ (p′ .left .0) cs room fnd =
         ap (λ (l : List (Order (Unit {0}))). (matching t w l) .fills) (sym (gives-orders fnd)) ∙ ap (λ (z : ℕ). fillsFrom u rs′ z cs room fnd) (sym a) in

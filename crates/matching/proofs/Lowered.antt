@@ -7,7 +7,7 @@ use mathlib.Core.Path.{ap, refl, _∙_, _≡_}
 use native.Mathlib.Nat.{min-zero, sub-zero}
 use native.Mathlib.Omega.{arith}
 use lib.Seq.{set-getD}
-use Rattle.records.specs.Rows.{Row, field, put}
+use Rattle.records.specs.Rows.{RecordAt, field, put}
 use Rattle.records.proofs.Cases.{lt?}
 use Rattle.records.proofs.Rows.{field-record, field-same, row-length}
 use Rattle.arena.specs.Times.{times}
@@ -15,14 +15,14 @@ use Rattle.arena.proofs.Times.{one-self}
 use Rattle.side.specs.Orders.{orders}
 use Rattle.side.proofs.Orders.{orders-frame}
 use Rattle.survey.specs.declared.Taker.{Taker}
-use Rattle.survey.specs.Makers.{share}
+use Rattle.survey.specs.Makers.{gift}
 use Rattle.survey.specs.Taker.{meets, takerOf}
 use Rattle.matching.specs.Thinned.{thinning}
 use Rattle.matching.proofs.Quantities.{Only, only-put, only-same, only-then}
 
 -- what the maker at code c gives to u, which still wants w
 abbrev pub taken : Taker → List ℕ → ℕ → ℕ → ℕ
-taken u rs w c = cond (meets u (field rs 2 c)) (share rs w c) 0
+taken u rs w c = cond (meets u (field rs 2 c)) (gift rs w c) 0
 
 abbrev pub less : Taker → List ℕ → ℕ → ℕ → List ℕ
 less u rs w c = put rs 1 c (field rs 1 c - taken u rs w c)
@@ -32,7 +32,7 @@ lowered u rs w [] = rs
 lowered u rs w (c ∷ cs) = lowered u (less u rs w c) (w - taken u rs w c) cs
 
 -- the code 0 is no row's
-pub rows-none : (rs l : List ℕ) → ((x : ℕ) → 1 ≤ times x l → Row rs x) → times 0 l ≡ 0
+pub rows-none : (rs l : List ℕ) → ((x : ℕ) → 1 ≤ times x l → RecordAt rs x) → times 0 l ≡ 0
 rows-none rs l h = ⊎-elim (λ i. absurd (let z : ⊥ = omega (arith, h 0 i .some) in z)) (λ i. omega arith) (lt? 0 (times 0 l))
 
 module _ (u : Taker) where
@@ -77,14 +77,14 @@ module _ (u : Taker) where
       rw (idle-one rs w c e, e, sub-zero w) (lowered-beyond rs w cs (λ x i. h x (omega arith)))
 
   -- as orders: the makers thinned
-  pub lowered-orders : (room : ℕ) (fnd : ℕ → Bool) (rs : List ℕ) (w : ℕ) (cs : List ℕ) → ((x : ℕ) → times x cs ≤ 1) → ((x : ℕ) → 1 ≤ times x cs → Row rs x)
+  pub lowered-orders : (room : ℕ) (fnd : ℕ → Bool) (rs : List ℕ) (w : ℕ) (cs : List ℕ) → ((x : ℕ) → times x cs ≤ 1) → ((x : ℕ) → 1 ≤ times x cs → RecordAt rs x)
       → orders (lowered u rs w cs) fnd cs ≡ thinning (takerOf room u) w (orders rs fnd cs)
   unfolding lowered thinning
   lowered-orders room fnd rs w [] o r = refl
   lowered-orders room fnd rs w (c ∷ cs) o r =
       let rs₁ = less u rs w c in
       let w₁ = w - taken u rs w c in
-      let row : Row rs c = r c (omega (arith, one-self c)) in
+      let row : RecordAt rs c = r c (omega (arith, one-self c)) in
       let n : (x : ℕ) → 1 ≤ times x cs → x ≡ c → ⊥ = λ x i e. omega (arith, o x, ap (λ (m : ℕ). times m (c ∷ cs)) e, one-self c, ap (λ (m : ℕ). times m cs) e) in
       let a = lowered-only rs₁ w₁ cs in
       let b = only-put rs c (field rs 1 c - taken u rs w c) in

@@ -11,7 +11,7 @@ use Rattle.rules.specs.Rules.{matching, outcome}
 use Rattle.rules.specs.Whole.{Positive}
 use Rattle.rules.proofs.Basics.{within-worse}
 use Rattle.rules.proofs.Match.{idle-beyond, idle-done}
-use Rattle.records.specs.Rows.{Row, field}
+use Rattle.records.specs.Rows.{RecordAt, field}
 use Rattle.models.specs.Readings.{sideOf}
 use Rattle.models.specs.Rows.{Place, fillRow, places, written}
 use Rattle.models.proofs.Places.{fill-faithful, written-none, written-step}
@@ -25,7 +25,8 @@ use Rattle.side.specs.Read.{levelsIn}
 use Rattle.side.proofs.Levels.{nth-times}
 use Rattle.side.proofs.Orders.{codes-times}
 use Rattle.survey.specs.declared.Taker.{Taker}
-use Rattle.survey.specs.Makers.{Laid, turn}
+use Rattle.side.specs.Prices.{rowInTurn}
+use Rattle.survey.specs.Makers.{Laid}
 use Rattle.survey.specs.Taker.{kindOf, meets, metSide, takerOf}
 use Rattle.survey.proofs.Coming.{First, coming, coming-all, coming-none, coming-step, coming-worse, ending-first, ending-none, orders-all, run-ending}
 use Rattle.survey.proofs.Tallied.{next-fill}
@@ -79,7 +80,7 @@ module _ (lv : List ℕ) (n : ℕ) (u : Taker) where
     once : (x : ℕ) → times x (c ∷ cs) ≤ 1
     once x = omega (arith, a .from x, a .laid .once x)
 
-    row : (x : ℕ) → 1 ≤ times x (c ∷ cs) → Row rs x
+    row : (x : ℕ) → 1 ≤ times x (c ∷ cs) → RecordAt rs x
     row x i = a .laid .rows x (omega (arith, a .from x))
 
     some : 1 ≤ field rs 1 c
@@ -182,7 +183,7 @@ module _ (lv : List ℕ) (n : ℕ) (u : Taker) where
       reached : meets u (field rs 2 c) ≡ true
       reached = i .near c (omega (arith, ap (times c) (first .is), one-self c))
 
-      pub queue-row : Row rs c
+      pub queue-row : RecordAt rs c
       queue-row = row now-ready c (omega (arith, one-self c))
 
       module _ (h : 1 ≤ p .left .0) where
@@ -241,11 +242,14 @@ module _ (lv : List ℕ) (n : ℕ) (u : Taker) where
         let f = ap (λ (l : List ℕ). l ++ ahead rs′ lv n u (k - 1)) (ending-none (field rs′ 3) c (i .queue) e (i .ends)) in
         record { below = omega (arith, o .below); ready = ready-to f (i .ready); toward = toward-then (o .toward) (toward-to f (i .toward)) }
 
-    -- nothing is left of the order
+    -- nothing is left of the order: before a queue, and within one
+    pub prices-idle : p .left .0 ≡ 0 → Done rs₀ out₀ p₀ (ahead rs₀ lv n u n) rs out p
+    prices-idle e = idle-full (o .toward) (o .ready) e
+
     pub prices-full : {rs′ out′ : List ℕ} {p′ : Progress} {c : ℕ} → p′ .left .0 ≡ 0 → Inside rs out p k rs′ out′ p′ c → Done rs₀ out₀ p₀ (ahead rs₀ lv n u n) rs′ out′ p′
     prices-full e i = idle-full (toward-then (o .toward) (i .toward)) (i .ready) e
 
-    module _ (h : 1 ≤ k) {i : ℕ} (e : i ≡ turn (metSide u) n k) (b : i < n) where
+    module _ (h : 1 ≤ k) {i : ℕ} (e : i ≡ rowInTurn (metSide u) n k) (b : i < n) where
       price-is : priceOf lv i ≡ nth (levelsIn rs lv n) i .price
       price-is = o .ready .laid .ladder .level i b .price
 

@@ -5,7 +5,7 @@ use mathlib.Core.Logic.{_≢_}
 use mathlib.Core.Path.{ap, refl, sym, _∙_, _≡_}
 use native.Mathlib.Omega.{arith}
 use lib.ListN.{length}
-use Rattle.records.specs.Rows.{field, places, put}
+use Rattle.records.specs.Rows.{field, recordCount, put}
 use Rattle.records.proofs.Rows.{field-column, put-length, row-length}
 use Rattle.arena.specs.Free.{chain}
 use Rattle.arena.specs.Links.{headOf}
@@ -43,7 +43,7 @@ module _ {rs ss : List ℕ} (o : Only rs ss) where
   from-same m lv i (suc n) = rw (chain-same m (headOf lv i), from-same m lv (suc i) n)
 
   pub only-levels : (lv : List ℕ) (n : ℕ) → levelsIn ss lv n ≡ levelsIn rs lv n
-  only-levels lv n = ap (λ (m : ℕ). levelsFrom (m / 5) ss lv 0 n) (o .long) ∙ from-same (places rs) lv 0 n
+  only-levels lv n = ap (λ (m : ℕ). levelsFrom (m / 5) ss lv 0 n) (o .long) ∙ from-same (recordCount rs) lv 0 n
 
   pub only-agree : (x : ℕ) → Agree rs ss x
   only-agree x = record {

@@ -2,7 +2,7 @@
 // `records` and `fills` are lent and changed; `levels` has the rows of the side that the order meets, n of them used.
 ghost use mathlib.Core.Path.{_≡_};
 ghost use Prim.Native.Nat.{min};
-ghost use Rattle.records.specs.Rows.{Row};
+ghost use Rattle.records.specs.Rows.{RecordAt};
 ghost use Rattle.models.specs.Rows.{Place, fillRow};
 ghost use Rattle.matching.specs.Carried.{CanCarry, Carries, Gives};
 use arena::HEAD;
@@ -18,9 +18,9 @@ use records::PRICE;
 use records::QUANTITY;
 use records::load;
 use records::store;
+use side::visit;
 use survey::Taker;
 use survey::reaches;
-use survey::visit;
 
 // The last fill's price and quantity; both are 0 where there is none.
 pub struct Last {
@@ -43,7 +43,7 @@ fn smaller(a: u64, b: u64) -> u64
 
 // The maker of code `c` gives what it can: its quantity falls, and the fill is written.
 fn give(records: &mut [u64], c: u64, t: Taker, fills: &mut [u64], p: Progress) -> Progress
-    requires { ⌜ Row (now records) c × Place fillRow (now fills) (p .fills) ⌝ }
+    requires { ⌜ RecordAt (now records) c × Place fillRow (now fills) (p .fills) ⌝ }
     ensures { λ r. ⌜ Gives t c p (now (records .entry)) (now (fills .entry)) (now (records .exit)) (now (fills .exit)) r ⌝ }
 {
     let quantity = load(records, QUANTITY, c);
@@ -91,19 +91,25 @@ pub fn carry_out(records: &mut [u64], levels: &[u64], n: usize, t: Taker, fills:
             qty: Quantity(0),
         },
     };
+    let side = t.side;
+    let makers = side.opposite();
     let mut k = n;
+    if t.qty.0 == 0 {
+        let none = p.last;
+        return none;
+    }
     'prices: while 0 < k {
-        let at = visit(t, n, k) * ROW;
-        if !reaches(t, levels[at]) {
+        let at = visit(makers, n, k) * ROW;
+        if !reaches(t, Price(levels[at])) {
             break 'prices;
         }
         let mut c = levels[at + HEAD];
         while c != 0 {
+            let next = load(records, NEXT, c);
+            p = give(records, c, t, fills, p);
             if p.left.0 == 0 {
                 break 'prices;
             }
-            let next = load(records, NEXT, c);
-            p = give(records, c, t, fills, p);
             c = next;
         }
         k -= 1;

@@ -10,7 +10,7 @@ use lib.ListN.{length, take, drop, length-append, length-drop, take-append-drop}
 use lib.Seq.{length-take-le, take-at, drop-at, drop-drop, sets, sets-eq}
 use Rattle.rules.specs.Rules as rule
 use Rattle.rules.specs.Whole.{one}
-use Rattle.models.specs.Rows.{Row, Faithful, places, Place, rowAt, listed, laid, written, sideNumber, sideIn, wholeIn, fillRow, levelRow}
+use Rattle.models.specs.Rows.{RowForm, Faithful, places, Place, rowAt, listed, laid, written, sideNumber, sideNumbered, wholeIn, fillRow, levelRow}
 
 -- ---- some elements of a list replaced by others
 
@@ -35,7 +35,7 @@ over-append l a ys zs h =
 
 -- ---- places
 
-module _ {X : Type 0} (r : Row X) where
+module _ {X : Type 0} (r : RowForm X) where
   -- a place that is counted is there
   pub place-within : (l : List ℕ) (i : ℕ) → 0 < r .width → i < places r l → Place r l i
   place-within l i w h =
@@ -123,7 +123,7 @@ module _ {X : Type 0} (r : Row X) where
         at-place : ℕ → List ℕ → X
         at-place i m = rowAt r m i
 
-side-back : (s : rule.Side) (w : Bool) → sideIn (sideNumber s + one w) ≡ s
+side-back : (s : rule.Side) (w : Bool) → sideNumbered (sideNumber s + one w) ≡ s
 side-back rule.bid true = refl
 side-back rule.bid false = refl
 side-back rule.ask true = refl

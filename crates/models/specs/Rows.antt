@@ -11,17 +11,17 @@ use Rattle.rules.specs.Whole.{one}
 use Rattle.models.specs.declared.BookDepth.{BookDepth}
 
 -- how an X stands in a row: so many numbers; which they are; and what the numbers at the front of a list mean
-pub record Row (X : Type 0) : Type 0 where
+pub record RowForm (X : Type 0) : Type 0 where
   pub width : ℕ
   pub write : X → List ℕ
   pub read : List ℕ → X
 
 -- what is written takes up its width, and reads back
-pub record Faithful {X : Type 0} (r : Row X) : Type 0 where
+pub record Faithful {X : Type 0} (r : RowForm X) : Type 0 where
   pub long : (x : X) → length (r .write x) ≡ r .width
   pub back : (x : X) (l : List ℕ) → r .read (r .write x ++ l) ≡ x
 
-module _ {X : Type 0} (r : Row X) where
+module _ {X : Type 0} (r : RowForm X) where
   -- how many places a list has
   abbrev pub places : List ℕ → ℕ
   places l = length l / r .width
@@ -53,14 +53,14 @@ abbrev pub sideNumber : rule.Side → ℕ
 sideNumber rule.bid = 0
 sideNumber rule.ask = 2
 
-abbrev pub sideIn : ℕ → rule.Side
-sideIn v = cond (eqb (v / 2 % 2) 0) rule.bid rule.ask
+abbrev pub sideNumbered : ℕ → rule.Side
+sideNumbered v = cond (eqb (v / 2 % 2) 0) rule.bid rule.ask
 
 abbrev pub wholeIn : ℕ → Bool
 wholeIn v = eqb (v % 2) 1
 
 -- a fill: taker, maker, quantity, price, side and use
-abbrev pub fillRow : Row (rule.Fill (Unit {0}))
+abbrev pub fillRow : RowForm (rule.Fill (Unit {0}))
 fillRow =
     record {
       width = 5;
@@ -70,14 +70,14 @@ fillRow =
         maker = getD l 1 0;
         quantity = getD l 2 0;
         price = getD l 3 0;
-        side = sideIn (getD l 4 0);
+        side = sideNumbered (getD l 4 0);
         whole = wholeIn (getD l 4 0);
         tag = tt;
       };
     }
 
 -- a level: price, total
-abbrev pub levelRow : Row rule.Level
+abbrev pub levelRow : RowForm rule.Level
 levelRow = record { width = 2; write = λ v. v .price ∷ v .total ∷ []; read = λ l. record { price = getD l 0 0; total = getD l 1 0 } }
 
 -- depth, with the lent list: asks from its start, bids from the first free place after them

@@ -4,7 +4,7 @@ ghost use mathlib.Core.List.{[], _∷_};
 ghost use Prim.Native.Nat.{_+_};
 ghost use Rattle.models.specs.Readings.{sideOf, fillOf, levelOf};
 ghost use Rattle.rules.specs.Whole.{one};
-ghost use Rattle.models.specs.Rows.{sideNumber, sideIn, fillRow, levelRow, places, Place, rowAt, written};
+ghost use Rattle.models.specs.Rows.{sideNumber, sideNumbered, fillRow, levelRow, places, Place, rowAt, written};
 use crate::BookLevel;
 use crate::FillMetadata;
 use crate::Id;
@@ -48,7 +48,7 @@ fn side_and_use(side: Side, whole: bool) -> u64
 }
 
 fn side_in(v: u64) -> Side
-    ensures { λ r. ⌜ sideOf r ≡ sideIn v ⌝ }
+    ensures { λ r. ⌜ sideOf r ≡ sideNumbered v ⌝ }
 {
     if v / ASK % 2 == 0 {
         Side::Bid

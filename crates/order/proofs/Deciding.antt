@@ -10,7 +10,7 @@ use Rattle.models.specs.declared.stats.Totals.{Totals}
 use Rattle.models.specs.Statistics.{overOf}
 use Rattle.survey.specs.declared.Taker.{Taker}
 use Rattle.survey.specs.declared.Outlook.{Outlook}
-use Rattle.order.specs.Decided.{numberOf, filled, remains, totalsBy, passes, decided, nothingFilled, eventBy}
+use Rattle.order.specs.Decided.{refusalNumber, filled, remains, totalsBy, passes, decided, nothingFilled, eventBy}
 
 pub remains-none : (any : Bool) (r : ℕ) → r ≡ 0 → remains any r ≡ false
 remains-none any r e = rw e
@@ -21,27 +21,27 @@ remains-some any (suc r) h = refl
 
 module _ (t : Taker) (s : Outlook) (st : Statistics) where
   module _ (n : ℕ) (r u c : Bool) where
-    pub decided-room : n < s .fills → numberOf (decided n t s st r u c) ≡ 2
+    pub decided-room : n < s .fills → refusalNumber (decided n t s st r u c) ≡ 2
     unfolding decided firstOf
     decided-room e = rw (lt-ltb n (s .fills) e)
 
-    pub decided-sum : s .fills ≤ n → passes t s st ≡ true → numberOf (decided n t s st r u c) ≡ 3
+    pub decided-sum : s .fills ≤ n → passes t s st ≡ true → refusalNumber (decided n t s st r u c) ≡ 3
     unfolding decided firstOf
     decided-sum e f = rw (le-ltb n (s .fills) e, f)
 
-    pub decided-none : s .fills ≤ n → passes t s st ≡ false → r ≡ false → numberOf (decided n t s st r u c) ≡ 0
+    pub decided-none : s .fills ≤ n → passes t s st ≡ false → r ≡ false → refusalNumber (decided n t s st r u c) ≡ 0
     unfolding decided firstOf
     decided-none e f g = rw (le-ltb n (s .fills) e, f, g)
 
-    pub decided-full : s .fills ≤ n → passes t s st ≡ false → r ≡ true → u ≡ true → numberOf (decided n t s st r u c) ≡ 4
+    pub decided-full : s .fills ≤ n → passes t s st ≡ false → r ≡ true → u ≡ true → refusalNumber (decided n t s st r u c) ≡ 4
     unfolding decided firstOf
     decided-full e f g h = rw (le-ltb n (s .fills) e, f, g, h)
 
-    pub decided-crowded : s .fills ≤ n → passes t s st ≡ false → r ≡ true → u ≡ false → c ≡ true → numberOf (decided n t s st r u c) ≡ 5
+    pub decided-crowded : s .fills ≤ n → passes t s st ≡ false → r ≡ true → u ≡ false → c ≡ true → refusalNumber (decided n t s st r u c) ≡ 5
     unfolding decided firstOf
     decided-crowded e f g h i = rw (le-ltb n (s .fills) e, f, g, h, i)
 
-    pub decided-fine : s .fills ≤ n → passes t s st ≡ false → r ≡ true → u ≡ false → c ≡ false → numberOf (decided n t s st r u c) ≡ 0
+    pub decided-fine : s .fills ≤ n → passes t s st ≡ false → r ≡ true → u ≡ false → c ≡ false → refusalNumber (decided n t s st r u c) ≡ 0
     unfolding decided firstOf
     decided-fine e f g h i = rw (le-ltb n (s .fills) e, f, g, h, i)
 

@@ -13,9 +13,9 @@ use Rattle.survey.specs.declared.Taker.{Taker}
 use Rattle.survey.specs.declared.Outlook.{Outlook}
 
 -- document 01's number of a refusal, or 0 for none
-abbrev pub numberOf : Option ℕ → ℕ
-numberOf none = 0
-numberOf (some n) = n
+abbrev pub refusalNumber : Option ℕ → ℕ
+refusalNumber none = 0
+refusalNumber (some n) = n
 
 -- how much of t is filled
 abbrev pub filled : Taker → Outlook → ℕ

@@ -2,7 +2,7 @@
 ghost use mathlib.Core.Path.{_≡_};
 ghost use Prim.Native.Nat.{_≤_};
 ghost use Rattle.models.specs.Readings.{eventOf};
-ghost use Rattle.order.specs.Decided.{numberOf, filled, remains, totalsBy, decided, eventBy};
+ghost use Rattle.order.specs.Decided.{refusalNumber, filled, remains, totalsBy, decided, eventBy};
 use models::OrderEvent;
 use models::Quantity;
 use models::Statistics;
@@ -53,7 +53,7 @@ pub fn refusal(
     crowded: bool,
 ) -> u64
     requires { ⌜ s .left .0 ≤ t .qty .0 ⌝ }
-    ensures { λ r. ⌜ r ≡ numberOf (decided places t s statistics rests full crowded) ⌝ }
+    ensures { λ r. ⌜ r ≡ refusalNumber (decided places t s statistics rests full crowded) ⌝ }
 {
     if places < s.fills {
         return FILLS_OUTNUMBER_PLACES;

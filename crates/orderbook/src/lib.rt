@@ -5,6 +5,7 @@ ghost use Rattle.rules.specs.Rules as rule;
 ghost use Rattle.models.specs.declared.OrderType.the-variants.{Market, Limit};
 ghost use Rattle.models.specs.Readings.{callOf};
 ghost use Rattle.models.specs.Rows.{fillRow, places};
+ghost use Rattle.ledger.specs.Stock.{stock};
 ghost use Rattle.calls.specs.Calls.{Executes, Tells, lowestAsk, highestBid, spreadOf, Shows, Finds, Makes};
 use calls::Deep;
 use calls::Got;
@@ -25,6 +26,11 @@ pub const ORDERS: usize = 1024;
 
 pub const PRICES: usize = 128;
 
+pub const SIZE: Size = Size {
+    orders: ORDERS,
+    prices: PRICES,
+};
+
 // The lengths of the lent storage: rows of 5 numbers, rows of 3 numbers, two places an order.
 pub const RECORDS: usize = 5120;
 
@@ -37,16 +43,7 @@ pub fn fresh(records: &mut [u64], bids: &mut [u64], asks: &mut [u64], search: &m
     ensures { λ r. ⌜ Makes rule.hall (now (records .entry)) (now (bids .entry)) (now (asks .entry)) (now (search .entry)) r
         (now (records .exit)) (now (bids .exit)) (now (asks .exit)) (now (search .exit)) ⌝ }
 {
-    calls::fresh(
-        Size {
-            orders: ORDERS,
-            prices: PRICES,
-        },
-        records,
-        bids,
-        asks,
-        search,
-    )
+    calls::fresh(SIZE, records, bids, asks, search)
 }
 
 // An order or a cancel.
@@ -61,14 +58,11 @@ pub fn execute(
     order: OrderType,
 ) -> Executed
     ensures { λ r. ⌜ Executes rule.hall (callOf (places fillRow (now (fills .entry))) order)
-        (record { book = book; records = now (records .entry); bids = now (bids .entry); asks = now (asks .entry); search = now (search .entry) }) statistics (now (fills .entry)) (r .answer)
-        (record { book = r .book; records = now (records .exit); bids = now (bids .exit); asks = now (asks .exit); search = now (search .exit) }) (r .statistics) (now (fills .exit)) ⌝ }
+        (stock book (now (records .entry)) (now (bids .entry)) (now (asks .entry)) (now (search .entry))) statistics (now (fills .entry))
+        (r .answer) (stock (r .book) (now (records .exit)) (now (bids .exit)) (now (asks .exit)) (now (search .exit))) (r .statistics) (now (fills .exit)) ⌝ }
 {
     calls::execute(
-        Size {
-            orders: ORDERS,
-            prices: PRICES,
-        },
+        SIZE,
         book,
         statistics,
         records,
@@ -94,8 +88,8 @@ pub fn market(
     qty: Quantity,
 ) -> Executed
     ensures { λ r. ⌜ Executes rule.hall (callOf (places fillRow (now (fills .entry))) (Market id side qty))
-        (record { book = book; records = now (records .entry); bids = now (bids .entry); asks = now (asks .entry); search = now (search .entry) }) statistics (now (fills .entry)) (r .answer)
-        (record { book = r .book; records = now (records .exit); bids = now (bids .exit); asks = now (asks .exit); search = now (search .exit) }) (r .statistics) (now (fills .exit)) ⌝ }
+        (stock book (now (records .entry)) (now (bids .entry)) (now (asks .entry)) (now (search .entry))) statistics (now (fills .entry))
+        (r .answer) (stock (r .book) (now (records .exit)) (now (bids .exit)) (now (asks .exit)) (now (search .exit))) (r .statistics) (now (fills .exit)) ⌝ }
 {
     let order = OrderType::Market { id, side, qty };
     execute(book, statistics, records, bids, asks, search, fills, order)
@@ -116,8 +110,8 @@ pub fn limit(
     price: Price,
 ) -> Executed
     ensures { λ r. ⌜ Executes rule.hall (callOf (places fillRow (now (fills .entry))) (Limit id side qty price))
-        (record { book = book; records = now (records .entry); bids = now (bids .entry); asks = now (asks .entry); search = now (search .entry) }) statistics (now (fills .entry)) (r .answer)
-        (record { book = r .book; records = now (records .exit); bids = now (bids .exit); asks = now (asks .exit); search = now (search .exit) }) (r .statistics) (now (fills .exit)) ⌝ }
+        (stock book (now (records .entry)) (now (bids .entry)) (now (asks .entry)) (now (search .entry))) statistics (now (fills .entry))
+        (r .answer) (stock (r .book) (now (records .exit)) (now (bids .exit)) (now (asks .exit)) (now (search .exit))) (r .statistics) (now (fills .exit)) ⌝ }
 {
     let order = OrderType::Limit {
         id,
@@ -139,22 +133,10 @@ pub fn cancel(
     id: Id,
 ) -> Executed
     ensures { λ r. ⌜ Executes rule.hall (rule.cancel (id .0))
-        (record { book = book; records = now (records .entry); bids = now (bids .entry); asks = now (asks .entry); search = now (search .entry) }) statistics [] (r .answer)
-        (record { book = r .book; records = now (records .exit); bids = now (bids .exit); asks = now (asks .exit); search = now (search .exit) }) (r .statistics) [] ⌝ }
+        (stock book (now (records .entry)) (now (bids .entry)) (now (asks .entry)) (now (search .entry))) statistics []
+        (r .answer) (stock (r .book) (now (records .exit)) (now (bids .exit)) (now (asks .exit)) (now (search .exit))) (r .statistics) [] ⌝ }
 {
-    calls::cancel(
-        Size {
-            orders: ORDERS,
-            prices: PRICES,
-        },
-        book,
-        statistics,
-        records,
-        bids,
-        asks,
-        search,
-        id,
-    )
+    calls::cancel(SIZE, book, statistics, records, bids, asks, search, id)
 }
 
 // The lowest ask.
@@ -165,19 +147,9 @@ pub fn min_ask(
     asks: &[u64],
     search: &[u64],
 ) -> Quoted
-    ensures { λ r. ⌜ Tells rule.hall lowestAsk (record { book = book; records = now (records .entry); bids = now (bids .entry); asks = now (asks .entry); search = now (search .entry) }) r ⌝ }
+    ensures { λ r. ⌜ Tells rule.hall lowestAsk (stock book (now (records .entry)) (now (bids .entry)) (now (asks .entry)) (now (search .entry))) r ⌝ }
 {
-    calls::min_ask(
-        Size {
-            orders: ORDERS,
-            prices: PRICES,
-        },
-        book,
-        records,
-        bids,
-        asks,
-        search,
-    )
+    calls::min_ask(SIZE, book, records, bids, asks, search)
 }
 
 // The highest bid.
@@ -188,19 +160,9 @@ pub fn max_bid(
     asks: &[u64],
     search: &[u64],
 ) -> Quoted
-    ensures { λ r. ⌜ Tells rule.hall highestBid (record { book = book; records = now (records .entry); bids = now (bids .entry); asks = now (asks .entry); search = now (search .entry) }) r ⌝ }
+    ensures { λ r. ⌜ Tells rule.hall highestBid (stock book (now (records .entry)) (now (bids .entry)) (now (asks .entry)) (now (search .entry))) r ⌝ }
 {
-    calls::max_bid(
-        Size {
-            orders: ORDERS,
-            prices: PRICES,
-        },
-        book,
-        records,
-        bids,
-        asks,
-        search,
-    )
+    calls::max_bid(SIZE, book, records, bids, asks, search)
 }
 
 // The lowest ask less the highest bid, where both are there.
@@ -211,19 +173,9 @@ pub fn spread(
     asks: &[u64],
     search: &[u64],
 ) -> Quoted
-    ensures { λ r. ⌜ Tells rule.hall spreadOf (record { book = book; records = now (records .entry); bids = now (bids .entry); asks = now (asks .entry); search = now (search .entry) }) r ⌝ }
+    ensures { λ r. ⌜ Tells rule.hall spreadOf (stock book (now (records .entry)) (now (bids .entry)) (now (asks .entry)) (now (search .entry))) r ⌝ }
 {
-    calls::spread(
-        Size {
-            orders: ORDERS,
-            prices: PRICES,
-        },
-        book,
-        records,
-        bids,
-        asks,
-        search,
-    )
+    calls::spread(SIZE, book, records, bids, asks, search)
 }
 
 // Every occupied price with its total: asks from the start of `out`, then bids, both ascending. `levels` is echoed.
@@ -236,21 +188,9 @@ pub fn depth(
     levels: usize,
     out: &mut [u64],
 ) -> Deep
-    ensures { λ r. ⌜ Shows rule.hall levels (record { book = book; records = now (records .entry); bids = now (bids .entry); asks = now (asks .entry); search = now (search .entry) }) (now (out .entry)) r (now (out .exit)) ⌝ }
+    ensures { λ r. ⌜ Shows rule.hall levels (stock book (now (records .entry)) (now (bids .entry)) (now (asks .entry)) (now (search .entry))) (now (out .entry)) r (now (out .exit)) ⌝ }
 {
-    calls::depth(
-        Size {
-            orders: ORDERS,
-            prices: PRICES,
-        },
-        book,
-        records,
-        bids,
-        asks,
-        search,
-        levels,
-        out,
-    )
+    calls::depth(SIZE, book, records, bids, asks, search, levels, out)
 }
 
 // The order that the search finds under the id, with the number of places that it looked at.
@@ -262,18 +202,7 @@ pub fn get(
     search: &[u64],
     id: Id,
 ) -> Got
-    ensures { λ r. ⌜ Finds rule.hall (id .0) (record { book = book; records = now (records .entry); bids = now (bids .entry); asks = now (asks .entry); search = now (search .entry) }) r ⌝ }
+    ensures { λ r. ⌜ Finds rule.hall (id .0) (stock book (now (records .entry)) (now (bids .entry)) (now (asks .entry)) (now (search .entry))) r ⌝ }
 {
-    calls::get(
-        Size {
-            orders: ORDERS,
-            prices: PRICES,
-        },
-        book,
-        records,
-        bids,
-        asks,
-        search,
-        id,
-    )
+    calls::get(SIZE, book, records, bids, asks, search, id)
 }

@@ -7,10 +7,10 @@ use mathlib.Core.Path.{ap, _≡_}
 use native.Mathlib.Omega.{arith}
 use lib.ListN.{length, length-set}
 use lib.Seq.{getD-set-other, getD-set-same}
-use Rattle.records.specs.Rows.{Row, field, places, put}
+use Rattle.records.specs.Rows.{RecordAt, field, recordCount, put}
 
 -- the column written
-pub field-same : (rs : List ℕ) (f c v : ℕ) → f < 5 → Row rs c → field (put rs f c v) f c ≡ v
+pub field-same : (rs : List ℕ) (f c v : ℕ) → f < 5 → RecordAt rs c → field (put rs f c v) f c ≡ v
 field-same rs f c v h r = getD-set-same rs ((c - 1) * 5 + f) v 0 (omega (arith, r .inside))
 
 -- another column, of whatever record
@@ -25,15 +25,15 @@ field-record rs f g c d v h i p q n = getD-set-other rs ((c - 1) * 5 + f) ((d - 
 pub put-length : (rs : List ℕ) (f c v : ℕ) → length (put rs f c v) ≡ length rs
 put-length rs f c v = length-set rs ((c - 1) * 5 + f) v
 
-pub put-places : (rs : List ℕ) (f c v : ℕ) → places (put rs f c v) ≡ places rs
+pub put-places : (rs : List ℕ) (f c v : ℕ) → recordCount (put rs f c v) ≡ recordCount rs
 put-places rs f c v = ap (λ (n : ℕ). n / 5) (put-length rs f c v)
 
-pub row-length : {rs : List ℕ} (ss : List ℕ) {c : ℕ} → length ss ≡ length rs → Row rs c → Row ss c
+pub row-length : {rs : List ℕ} (ss : List ℕ) {c : ℕ} → length ss ≡ length rs → RecordAt rs c → RecordAt ss c
 row-length ss e r = record { some = r .some; inside = omega (arith, r .inside) }
 
 -- the codes are those from 1 to the number of records
-pub row-places : (rs : List ℕ) (c : ℕ) → 1 ≤ c → c ≤ places rs → Row rs c
+pub row-places : (rs : List ℕ) (c : ℕ) → 1 ≤ c → c ≤ recordCount rs → RecordAt rs c
 row-places rs c h g = record { some = h; inside = omega arith }
 
-pub places-row : {rs : List ℕ} {c : ℕ} → Row rs c → c ≤ places rs
+pub places-row : {rs : List ℕ} {c : ℕ} → RecordAt rs c → c ≤ recordCount rs
 places-row r = omega (arith, r .some, r .inside)

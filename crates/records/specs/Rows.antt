@@ -7,8 +7,8 @@ use mathlib.Core.List.{List}
 use lib.ListN.{getD, length, set}
 
 -- how many records there are
-abbrev pub places : List ℕ → ℕ
-places rs = length rs / 5
+abbrev pub recordCount : List ℕ → ℕ
+recordCount rs = length rs / 5
 
 -- the number in column f of the record of code c
 abbrev pub field : List ℕ → ℕ → ℕ → ℕ
@@ -19,6 +19,6 @@ abbrev pub put : List ℕ → ℕ → ℕ → ℕ → List ℕ
 put rs f c v = set rs ((c - 1) * 5 + f) v
 
 -- c is the code of a record
-pub record Row (rs : List ℕ) (c : ℕ) : Type 0 where
+pub record RecordAt (rs : List ℕ) (c : ℕ) : Type 0 where
   pub some : 1 ≤ c
   pub inside : (c - 1) * 5 + 4 < length rs

@@ -2,7 +2,7 @@
 // A record is named by its code, its row + 1; code 0 is none.
 ghost use mathlib.Core.Path.{_≡_};
 ghost use Prim.Native.Nat.{_<_};
-ghost use Rattle.records.specs.Rows.{Row, field, put};
+ghost use Rattle.records.specs.Rows.{RecordAt, field, put};
 
 // The columns of a record, and how many there are.
 pub const ID: usize = 0;
@@ -19,7 +19,7 @@ pub const WIDTH: usize = 5;
 
 // The number in column `f` of the record of code `c`.
 pub fn load(records: &[u64], f: usize, c: u64) -> u64
-    requires { ⌜ (f < 5) × Row (now records) c ⌝ }
+    requires { ⌜ (f < 5) × RecordAt (now records) c ⌝ }
     ensures { λ r. ⌜ r ≡ field (now (records .entry)) f c ⌝ }
 {
     records[(c as usize - 1) * WIDTH + f]
@@ -27,7 +27,7 @@ pub fn load(records: &[u64], f: usize, c: u64) -> u64
 
 // `v` written there.
 pub fn store(records: &mut [u64], f: usize, c: u64, v: u64)
-    requires { ⌜ (f < 5) × Row (now records) c ⌝ }
+    requires { ⌜ (f < 5) × RecordAt (now records) c ⌝ }
     ensures { λ _. ⌜ now (records .exit) ≡ put (now (records .entry)) f c v ⌝ }
 {
     records[(c as usize - 1) * WIDTH + f] = v;

@@ -10,7 +10,7 @@ use models::LastTrade;
 use models::Statistics;
 use models::Trade;
 use models::bits::bits_of;
-use script::Desk;
+use script::OwnDesk;
 use script::FILLS;
 use script::Step;
 use tell::line;
@@ -34,7 +34,7 @@ fn tell_statistics(s: Statistics) {
     }
 }
 
-fn figures(d: Desk) {
+fn figures(d: OwnDesk) {
     let quotes = script::quoted(d);
     let ask = quotes.ask;
     let bid = quotes.bid;
@@ -46,7 +46,7 @@ fn figures(d: Desk) {
 }
 
 // A step carried out and its answer told.
-fn carry_out(d: Desk, step: Step) -> Desk {
+fn carry_out(d: OwnDesk, step: Step) -> OwnDesk {
     match step {
         Step::Order(o) => script::order(d, FILLS, o),
         Step::Tracking(on) => {

@@ -40,7 +40,7 @@ pub const SHOWN: usize = 512;
 pub const MARK: u64 = 7;
 
 // A desk: its storage and its small values.
-pub struct Desk {
+pub struct OwnDesk {
     pub records: [u64; RECORDS],
     pub bids: [u64; LEVELS],
     pub asks: [u64; LEVELS],
@@ -58,7 +58,7 @@ pub struct Quotes {
 // What an order came to: the answer, the desk after it, and the whole buffer of which a part was lent for fills.
 pub struct Done {
     pub answer: Answer,
-    pub desk: Desk,
+    pub desk: OwnDesk,
     pub fills: [u64; FILLS],
 }
 
@@ -179,7 +179,7 @@ fn small_of(opening: Opening) -> Small {
 }
 
 // A desk with nothing on it.
-pub fn fresh() -> Desk {
+pub fn fresh() -> OwnDesk {
     let mut records = [0u64; RECORDS];
     let mut bids = [0u64; LEVELS];
     let mut asks = [0u64; LEVELS];
@@ -188,7 +188,7 @@ pub fn fresh() -> Desk {
     let small = small_of(opening);
     let book = small.book;
     let statistics = small.statistics;
-    Desk {
+    OwnDesk {
         records,
         bids,
         asks,
@@ -206,7 +206,7 @@ pub fn least(a: usize, b: usize) -> usize
 }
 
 // An order or a cancel, with a buffer of `room` numbers for its fills.
-pub fn execute(d: Desk, room: usize, o: OrderType) -> Done {
+pub fn execute(d: OwnDesk, room: usize, o: OrderType) -> Done {
     let mut records = d.records;
     let mut bids = d.bids;
     let mut asks = d.asks;
@@ -226,7 +226,7 @@ pub fn execute(d: Desk, room: usize, o: OrderType) -> Done {
     let answer = done.answer;
     let book = done.book;
     let statistics = done.statistics;
-    let desk = Desk {
+    let desk = OwnDesk {
         records,
         bids,
         asks,
@@ -242,7 +242,7 @@ pub fn execute(d: Desk, room: usize, o: OrderType) -> Done {
 }
 
 // The same, and the answer told with its fills.
-pub fn order(d: Desk, room: usize, o: OrderType) -> Desk {
+pub fn order(d: OwnDesk, room: usize, o: OrderType) -> OwnDesk {
     let done = execute(d, room, o);
     let answer = done.answer;
     let fills = done.fills;
@@ -264,7 +264,7 @@ fn quotes_of(
 }
 
 // The lowest ask, the highest bid and the spread.
-pub fn quoted(d: Desk) -> Quotes {
+pub fn quoted(d: OwnDesk) -> Quotes {
     let records = d.records;
     let bids = d.bids;
     let asks = d.asks;
@@ -273,7 +273,7 @@ pub fn quoted(d: Desk) -> Quotes {
 }
 
 // Depth for one level, with a buffer of `room` numbers.
-pub fn depth(d: Desk, room: usize) -> Shown {
+pub fn depth(d: OwnDesk, room: usize) -> Shown {
     let records = d.records;
     let bids = d.bids;
     let asks = d.asks;
@@ -285,7 +285,7 @@ pub fn depth(d: Desk, room: usize) -> Shown {
 }
 
 // Tracking switched: no other number changes.
-pub fn tracked(d: Desk, on: bool) -> Desk {
+pub fn tracked(d: OwnDesk, on: bool) -> OwnDesk {
     let before = d.statistics;
     let mut after = d;
     let statistics = before.track_stats(on);

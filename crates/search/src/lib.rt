@@ -3,8 +3,8 @@ ghost use mathlib.Core.Path.{_≡_};
 ghost use mathlib.Core.Bool.{Bool, true};
 ghost use Prim.Native.Nat.{ℕ, _+_, _<_, _≤_};
 ghost use lib.ListN.{length, replicate};
-ghost use Rattle.search.specs.Seek.{inside, home, Masks, next, dist, stops, sought, Good, entering, removing, forgetting, Pointing, Tells, Right};
-ghost use Rattle.records.specs.Rows.{Row};
+ghost use Rattle.search.specs.Seek.{inside, home, Masks, next, dist, stops, sought, entering, removing, forgetting, Pointing};
+ghost use Rattle.records.specs.Rows.{RecordAt};
 use records::ID;
 use records::WIDTH;
 use records::load;
@@ -162,7 +162,7 @@ pub fn remove(table: &mut [u64], records: &[u64], place: usize)
 
 // Takes out the entry of the record of code `e`, where a search finds that record. A newer record with its id stays found.
 pub fn forget(table: &mut [u64], records: &[u64], e: u64)
-    requires { ⌜ Pointing (now table) (now records) × (0 < length (now table)) × Row (now records) e ⌝ }
+    requires { ⌜ Pointing (now table) (now records) × (0 < length (now table)) × RecordAt (now records) e ⌝ }
     ensures { λ _. ⌜ now (table .exit) ≡ forgetting (now (table .entry)) (now (records .entry)) e ⌝ }
 {
     let w = find(table, records, load(records, ID, e));
@@ -170,40 +170,6 @@ pub fn forget(table: &mut [u64], records: &[u64], e: u64)
     if w.entry == e {
         remove(table, records, p);
     }
-}
-
-// Whether place `p` is right.
-pub fn right_at(table: &[u64], records: &[u64], p: usize) -> bool
-    requires { ⌜ p < length (now table) ⌝ }
-    ensures { λ r. ⌜ Tells r (Right (now (table .entry)) (now (records .entry)) p) ⌝ }
-{
-    let e = table[p];
-    if e == 0 {
-        return true;
-    }
-    if !points(records, e) {
-        return false;
-    }
-    let w = find(table, records, load(records, ID, e));
-    let q = w.place;
-    if q == p {
-        return true;
-    }
-    false
-}
-
-// Whether the table is sound: the check that a stored table is given before it is used.
-pub fn sound(table: &[u64], records: &[u64]) -> bool
-    ensures { λ r. ⌜ Tells r (Good (now (table .entry)) (now (records .entry))) ⌝ }
-{
-    let mut p = 0;
-    while p < table.len() {
-        if !right_at(table, records, p) {
-            return false;
-        }
-        p += 1;
-    }
-    true
 }
 
 // Every place of the table freed.

@@ -10,7 +10,7 @@ use lib.ListN.{getD, length, length-set, set}
 use lib.Seq.{getD-set-other, getD-set-same}
 use borrow.Author.Tests.{eqb-false, eqb-true}
 use Rattle.rules.specs.Whole.{one}
-use Rattle.records.specs.Rows.{Row, field, put}
+use Rattle.records.specs.Rows.{RecordAt, field, put}
 use Rattle.records.proofs.Rows.{field-column, field-record, field-same}
 use Rattle.arena.specs.Links.{appended, link, linkLv, linkRs}
 use Rattle.arena.specs.Ring.{Run}
@@ -18,7 +18,7 @@ use Rattle.arena.specs.Times.{times}
 use Rattle.arena.proofs.Links.{appended-field, link-some, tie-field, tie-lv-length, tie-off, tie-record, tie-row, tie-rs-length, tie-same}
 use Rattle.arena.proofs.Ring.{append-run, before-in}
 use Rattle.arena.proofs.Times.{one-other, one-self, times-snoc}
-use Rattle.side.specs.Levels.{Ladder, Level, Lvl, empty, nth, ups}
+use Rattle.side.specs.Levels.{Ladder, LevelStored, Lvl, empty, nth, ups}
 use Rattle.side.specs.Prices.{new}
 use Rattle.side.proofs.Levels.{Agree, Nodes, level-frame, node-row, nth-times, two-times, with, with-price}
 
@@ -29,7 +29,7 @@ appended-agree rs t c x i j a b = record {
   prev = sym (field-record (put (linkRs rs 3 t c) 3 c 0) 4 4 c x t (omega arith) (omega arith) j i a ∙ (field-record (linkRs rs 3 t c) 3 4 c x 0 (omega arith) (omega arith) j i a ∙ tie-field rs 3 4 t c x (omega arith) (omega arith) (omega arith)));
 }
 
-module _ {rs lv : List ℕ} {n : ℕ} {ws : List Lvl} (k c : ℕ) (s : Ladder rs lv n ws) (v : Nodes rs ws) (kn : k < n) (new : times c (ups ws) ≡ 0) (row : Row rs c) (same : field rs 2 c ≡ nth ws k .price) where
+module _ {rs lv : List ℕ} {n : ℕ} {ws : List Lvl} (k c : ℕ) (s : Ladder rs lv n ws) (v : Nodes rs ws) (kn : k < n) (new : times c (ups ws) ≡ 0) (row : RecordAt rs c) (same : field rs 2 c ≡ nth ws k .price) where
   abbrev tc : ℕ
   tc = getD lv (k * 3 + 2) 0
 
@@ -63,16 +63,16 @@ module _ {rs lv : List ℕ} {n : ℕ} {ws : List Lvl} (k c : ℕ) (s : Ladder rs
   pub last-node : 1 ≤ times tc (nth ws k .queue) + one (eqb tc 0)
   last-node = omega (arith, before-in F B 0 (nth ws k .queue) 0 0 (omega (arith, one-self 0)) (s .level k kn .ring))
 
-  pub row-t : 1 ≤ tc → Row rs tc
+  pub row-t : 1 ≤ tc → RecordAt rs tc
   row-t h = node-row k tc v kw last-node h
 
   tc≢c : tc ≢ c
   tc≢c e = omega (arith, last-node, row .some, nth-times c ws k kw, one-other c 0 (omega (arith, row .some)), ap (λ (m : ℕ). times m (nth ws k .queue) + one (eqb m 0)) e)
 
-  row₁ : Row r₁ c
+  row₁ : RecordAt r₁ c
   row₁ = record { some = row .some; inside = omega (arith, row .inside, tie-rs-length rs 3 tc c) }
 
-  row₁₂ : Row (put r₁ 3 c 0) c
+  row₁₂ : RecordAt (put r₁ 3 c 0) c
   row₁₂ = record { some = row .some; inside = omega (arith, row₁ .inside, length-set r₁ ((c - 1) * 5 + 3) 0) }
 
   G-is : (x : ℕ) → x ≢ c → G x ≡ link r₁ 3 (getD l₁ (k * 3 + 1) 0) x
@@ -124,7 +124,7 @@ module _ {rs lv : List ℕ} {n : ℕ} {ws : List Lvl} (k c : ℕ) (s : Ladder rs
       cases x true e i = rw (eqb-true x c e) (appended-field rs 2 tc c c (omega arith) ∙ same)
       cases x false e i = appended-field rs 2 tc c x (omega arith) ∙ s .level k kn .priced x (omega (arith, times-snoc x (nth ws k .queue) c, ap one e))
 
-      go : (i : ℕ) → i < n → (t : Bool) → eqb i k ≡ t → Level r₂ (getD l₂ (i * 3) 0) (getD l₂ (i * 3 + 1) 0) (getD l₂ (i * 3 + 2) 0) (nth (with ws k (nth ws k .queue ++ c ∷ [])) i)
+      go : (i : ℕ) → i < n → (t : Bool) → eqb i k ≡ t → LevelStored r₂ (getD l₂ (i * 3) 0) (getD l₂ (i * 3 + 1) 0) (getD l₂ (i * 3 + 2) 0) (nth (with ws k (nth ws k .queue ++ c ∷ [])) i)
       go i h true e =
           let z : i ≡ k = eqb-true i k e in
           rw (z, getD-set-same ws k (record { price = nth ws k .price; queue = nth ws k .queue ++ c ∷ [] }) (empty 0) kw)

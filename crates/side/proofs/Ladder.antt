@@ -8,7 +8,7 @@ use native.Mathlib.Omega.{arith}
 use lib.Dec.{eqb, ltb}
 use lib.ListN.{getD, length}
 use borrow.Author.Tests.{eqb-false, eqb-true, ltb-false, ltb-true}
-use Rattle.side.specs.Levels.{Ladder, Level, Lvl, downs, empty, nth, ups}
+use Rattle.side.specs.Levels.{Ladder, LevelStored, Lvl, downs, empty, nth, ups}
 use Rattle.side.specs.Prices.{Closed, Opened}
 
 abbrev pub gap : List Lvl → ℕ → ℕ → List Lvl
@@ -109,7 +109,7 @@ module _ {rs lv : List ℕ} {n : ℕ} {ws : List Lvl} (lw : List ℕ) (k p : ℕ
     rising = λ i j a b. rise i j a b (placed k i) (placed k j);
   }
     where
-      lev : (i : ℕ) → i < n + 1 → Place k i → Level rs (getD lw (i * 3) 0) (getD lw (i * 3 + 1) 0) (getD lw (i * 3 + 2) 0) (nth (gap ws k p) i)
+      lev : (i : ℕ) → i < n + 1 → Place k i → LevelStored rs (getD lw (i * 3) 0) (getD lw (i * 3 + 1) 0) (getD lw (i * 3 + 2) 0) (nth (gap ws k p) i)
       lev i h (under q) = rw (o .below (i * 3) (omega arith), o .below (i * 3 + 1) (omega arith), o .below (i * 3 + 2) (omega arith), open-below ws k p i kw q) (s .level i (omega arith))
       lev i h (here q) = rw (q, o .price, o .head, o .tail, open-at ws k p kw)
           (record { price = refl; ring = (refl, refl); priced = λ x z. absurd (let f : ⊥ = omega arith in f) })
@@ -152,7 +152,7 @@ module _ {rs lv : List ℕ} {n : ℕ} {ws : List Lvl} (lw : List ℕ) (k : ℕ) 
     rising = λ i j a b. rise i j a b (ltb i k) refl (ltb j k) refl;
   }
     where
-      lev : (i : ℕ) → i < n - 1 → (t : Bool) → ltb i k ≡ t → Level rs (getD lw (i * 3) 0) (getD lw (i * 3 + 1) 0) (getD lw (i * 3 + 2) 0) (nth (shut ws k) i)
+      lev : (i : ℕ) → i < n - 1 → (t : Bool) → ltb i k ≡ t → LevelStored rs (getD lw (i * 3) 0) (getD lw (i * 3 + 1) 0) (getD lw (i * 3 + 2) 0) (nth (shut ws k) i)
       lev i h true e =
           let q : i < k = ltb-true i k e in
           rw (o .below (i * 3) (omega arith), o .below (i * 3 + 1) (omega arith), o .below (i * 3 + 2) (omega arith), shut-below ws k i q) (s .level i (omega arith))

@@ -10,17 +10,17 @@ use lib.ListN.{getD, length}
 use lib.Seq.{getD-set-same}
 use borrow.Author.Tests.{eq-eqb, le-ltb, lt-ltb, ltb-false, ltb-true}
 use Rattle.rules.specs.Whole.{one}
-use Rattle.records.specs.Rows.{Row, field, put}
+use Rattle.records.specs.Rows.{RecordAt, field, put}
 use Rattle.records.proofs.Cases.{lt?}
 use Rattle.records.proofs.Rows.{field-column}
-use Rattle.arena.specs.Free.{given}
+use Rattle.arena.specs.Free.{returned}
 use Rattle.arena.specs.Links.{link, linkLv, untied}
 use Rattle.arena.specs.Ring.{Run, cut}
 use Rattle.arena.specs.Times.{times}
 use Rattle.arena.proofs.Links.{tie-lv-length, untied-field}
 use Rattle.arena.proofs.Times.{one-self, times-append}
 use Rattle.side.specs.Doors.{CanDiscard, Discards, keepLevel, without}
-use Rattle.side.specs.Levels.{Level, Lvl, empty, nth, ups}
+use Rattle.side.specs.Levels.{LevelStored, Lvl, empty, nth, ups}
 use Rattle.side.specs.Prices.{Bracket, Closed}
 use Rattle.side.specs.Stored.{Stored}
 use Rattle.side.proofs.Ladder.{shut, shut-side, shut-ups}
@@ -84,14 +84,14 @@ module _ {n : ℕ} {rs lv ov : List ℕ} {s t f r : ℕ} {ws vs : List Lvl} {fr 
       (rw e at h, rw e at (v .inside))
 
 -- the head says whether the queue is empty
-pub head-none : {rs : List ℕ} {p h t : ℕ} {w : Lvl} → Level rs p h t w → times 0 (w .queue) ≡ 0 → h ≡ 0 → w .queue ≡ []
+pub head-none : {rs : List ℕ} {p h t : ℕ} {w : Lvl} → LevelStored rs p h t w → times 0 (w .queue) ≡ 0 → h ≡ 0 → w .queue ≡ []
 head-none {rs} {p} {h} {t} {w} v z e = go (w .queue) (v .ring) z
   where
     go : (q : List ℕ) → Run (link rs 3 h) (link rs 4 t) 0 q 0 → times 0 q ≡ 0 → q ≡ []
     go [] r y = refl
     go (x ∷ q) r y = absurd (let g : 0 ≡ x = sym e ∙ r .0 in let m : ⊥ = omega (arith, ap one (eq-eqb 0 x g)) in m)
 
-pub head-some : {rs : List ℕ} {p h t : ℕ} {w : Lvl} → Level rs p h t w → h ≢ 0 → (x : ℕ) × (q : List ℕ) × (w .queue ≡ x ∷ q)
+pub head-some : {rs : List ℕ} {p h t : ℕ} {w : Lvl} → LevelStored rs p h t w → h ≢ 0 → (x : ℕ) × (q : List ℕ) × (w .queue ≡ x ∷ q)
 head-some {rs} {p} {h} {t} {w} v d = go (w .queue) (v .ring)
   where
     go : (q : List ℕ) → Run (link rs 3 h) (link rs 4 t) 0 q 0 → (x : ℕ) × (l : List ℕ) × (q ≡ x ∷ l)
@@ -125,7 +125,7 @@ module _ {n : ℕ} {rs lv ov : List ℕ} {s t f r : ℕ} {ws vs : List Lvl} {fr 
   nc = field rs 3 c
 
   abbrev r₃ : List ℕ
-  r₃ = given (untied rs pc nc) c f
+  r₃ = returned (untied rs pc nc) c f
 
   abbrev l₂ : List ℕ
   l₂ = linkLv (linkLv lv (k * 3 + 1) pc nc) (k * 3 + 2) nc pc
@@ -160,7 +160,7 @@ module _ {n : ℕ} {rs lv ov : List ℕ} {s t f r : ℕ} {ws vs : List Lvl} {fr 
   pub discard-fields : (g x : ℕ) → g < 3 → 1 ≤ x → x ≢ c → field r₃ g x ≡ field rs g x
   discard-fields = keeps k c w (in-row k c w i b .0) (in-row k c w i b .1)
 
-pub discard-ids : (rs : List ℕ) (p n c f x : ℕ) → field (given (untied rs p n) c f) 0 x ≡ field rs 0 x
+pub discard-ids : (rs : List ℕ) (p n c f x : ℕ) → field (returned (untied rs p n) c f) 0 x ≡ field rs 0 x
 discard-ids rs p n c f x =
     field-column (put (untied rs p n) 1 c 0) 3 0 c x f (omega arith) (omega arith) (omega arith) ∙ (field-column (untied rs p n) 1 0 c x 0 (omega arith) (omega arith) (omega arith) ∙ untied-field rs 0 p n x (omega arith))
 
@@ -169,7 +169,7 @@ module _ {rs lv : List ℕ} {s f c : ℕ} (h : CanDiscard rs lv s f c) {p k : �
   b′ : Bracket lv s (field rs 2 c) k k
   b′ = rw ep at b
 
-  pub unlink-needs : (k * 3 + 2 < length lv) × Row rs c × (1 ≤ field rs 4 c → Row rs (field rs 4 c)) × (1 ≤ field rs 3 c → Row rs (field rs 3 c))
+  pub unlink-needs : (k * 3 + 2 < length lv) × RecordAt rs c × (1 ≤ field rs 4 c → RecordAt rs (field rs 4 c)) × (1 ≤ field rs 3 c → RecordAt rs (field rs 3 c))
   unlink-needs =
       let w = h .stored in
       let m = in-row k c w (h .inside) b′ in
@@ -182,9 +182,9 @@ module _ {rs lv : List ℕ} {s f c : ℕ} (h : CanDiscard rs lv s f c) {p k : �
   )
 
   module _ {r₁ r₂ l₁ : List ℕ} (e₁ : r₁ ≡ untied rs (field rs 4 c) (field rs 3 c))
-      (d₁ : l₁ ≡ linkLv (linkLv lv (k * 3 + 1) (field rs 4 c) (field rs 3 c)) (k * 3 + 2) (field rs 3 c) (field rs 4 c)) (e₂ : r₂ ≡ given r₁ c f) where
-    e₃ : r₂ ≡ given (untied rs (field rs 4 c) (field rs 3 c)) c f
-    e₃ = e₂ ∙ ap (λ (x : List ℕ). given x c f) e₁
+      (d₁ : l₁ ≡ linkLv (linkLv lv (k * 3 + 1) (field rs 4 c) (field rs 3 c)) (k * 3 + 2) (field rs 3 c) (field rs 4 c)) (e₂ : r₂ ≡ returned r₁ c f) where
+    e₃ : r₂ ≡ returned (untied rs (field rs 4 c) (field rs 3 c)) c f
+    e₃ = e₂ ∙ ap (λ (x : List ℕ). returned x c f) e₁
 
     pub discards-keep : getD l₁ (k * 3 + 1) 0 ≢ 0 → Discards rs lv s f c r₂ l₁ s c
     discards-keep z = rw (e₃, d₁) (record {

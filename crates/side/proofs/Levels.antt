@@ -8,13 +8,13 @@ use lib.Dec.{eqb}
 use lib.ListN.{length, length-append, length-set, set}
 use lib.Seq.{getD-set-other}
 use Rattle.rules.specs.Whole.{one}
-use Rattle.records.specs.Rows.{Row, field}
+use Rattle.records.specs.Rows.{RecordAt, field}
 use Rattle.arena.specs.Links.{link, linkRs, untied}
 use Rattle.arena.specs.Times.{times}
 use Rattle.arena.proofs.Links.{link-frame, tie-field, tie-record}
 use Rattle.arena.proofs.Ring.{run-frame}
 use Rattle.arena.proofs.Times.{one-other, times-append}
-use Rattle.side.specs.Levels.{Ladder, Level, Lvl, downs, empty, nth, ups}
+use Rattle.side.specs.Levels.{Ladder, LevelStored, Lvl, downs, empty, nth, ups}
 
 -- the levels with the queue q at level k
 abbrev pub with : List Lvl → ℕ → List ℕ → List Lvl
@@ -48,7 +48,7 @@ pub record Agree (rs ss : List ℕ) (x : ℕ) : Type 0 where
   pub next : field rs 3 x ≡ field ss 3 x
   pub prev : field rs 4 x ≡ field ss 4 x
 
-pub level-frame : {rs : List ℕ} (ss : List ℕ) {p h t : ℕ} {w : Lvl} → ((x : ℕ) → 1 ≤ times x (w .queue) → Agree rs ss x) → Level rs p h t w → Level ss p h t w
+pub level-frame : {rs : List ℕ} (ss : List ℕ) {p h t : ℕ} {w : Lvl} → ((x : ℕ) → 1 ≤ times x (w .queue) → Agree rs ss x) → LevelStored rs p h t w → LevelStored ss p h t w
 level-frame {rs} ss {p} {h} {t} {w} a v = record {
   price = v .price;
   ring = run-frame (link rs 3 h) (link rs 4 t) (link ss 3 h) (link ss 4 t) 0 (w .queue) 0
@@ -60,7 +60,7 @@ level-frame {rs} ss {p} {h} {t} {w} a v = record {
 -- its nodes: 0 and its codes, each once
 pub record Nodes (rs : List ℕ) (ws : List Lvl) : Type 0 where
   pub once : (x : ℕ) → one (eqb x 0) + times x (ups ws) ≤ 1
-  pub rows : (x : ℕ) → 1 ≤ times x (ups ws) → Row rs x
+  pub rows : (x : ℕ) → 1 ≤ times x (ups ws) → RecordAt rs x
 
 pub side-frame : {rs : List ℕ} (ss : List ℕ) {lv : List ℕ} {n : ℕ} {ws : List Lvl} → ((x : ℕ) → 1 ≤ times x (ups ws) → Agree rs ss x) → Ladder rs lv n ws → Ladder ss lv n ws
 side-frame ss {ws = ws} a s = record {
@@ -71,7 +71,7 @@ side-frame ss {ws = ws} a s = record {
 }
 
 -- a node of a queue is 0 or a row
-pub node-row : {rs : List ℕ} {ws : List Lvl} (k x : ℕ) → Nodes rs ws → k < length ws → 1 ≤ times x (nth ws k .queue) + one (eqb x 0) → 1 ≤ x → Row rs x
+pub node-row : {rs : List ℕ} {ws : List Lvl} (k x : ℕ) → Nodes rs ws → k < length ws → 1 ≤ times x (nth ws k .queue) + one (eqb x 0) → 1 ≤ x → RecordAt rs x
 node-row {ws = ws} k x v h i p = v .rows x (omega (arith, nth-times x ws k h, one-other x 0 (omega arith)))
 
 pub untied-agree : (rs : List ℕ) (p n x : ℕ) → 1 ≤ x → (1 ≤ p → x ≢ p) → (1 ≤ n → x ≢ n) → Agree rs (untied rs p n) x

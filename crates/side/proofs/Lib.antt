@@ -7,5 +7,4 @@ pub mod Stored
 pub mod Own
 pub mod Leaving
 pub mod Resting
-pub mod Lessening
 pub mod Orders

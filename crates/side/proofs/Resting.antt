@@ -8,10 +8,10 @@ use lib.Dec.{eqb}
 use lib.ListN.{getD, length, length-append, length-set, set}
 use borrow.Author.Tests.{eq-eqb, le-ltb, lt-ltb, ne-eqb}
 use Rattle.rules.specs.Whole.{one}
-use Rattle.records.specs.Rows.{Row, field, put}
+use Rattle.records.specs.Rows.{RecordAt, field, put}
 use Rattle.records.proofs.Cases.{lt?}
 use Rattle.records.proofs.Rows.{field-column, field-same, row-length}
-use Rattle.arena.specs.Free.{written}
+use Rattle.arena.specs.Free.{recordWritten}
 use Rattle.arena.specs.Links.{appended, linkLv}
 use Rattle.arena.specs.Times.{times}
 use Rattle.arena.proofs.Free.{chain-frame, written-length, written-other}
@@ -42,15 +42,15 @@ rested-new (w ∷ ws) (suc k) c p h l g = rw (lt-ltb (w .price) p (l 0 (omega ar
 
 module _ {n : ℕ} {rs lv ov : List ℕ} {s t c r : ℕ} {ws vs : List Lvl} {fr : List ℕ} (id q p k : ℕ) (w : Stored n rs lv ov s t c r ws vs (c ∷ fr)) where
   abbrev r₁ : List ℕ
-  r₁ = written rs c id q p
+  r₁ = recordWritten rs c id q p
 
   once-c : times c (ups ws) + times c (ups vs) + times c fr ≡ 0
   once-c = omega (arith, at-most-one w c, one-self c)
 
-  pub row : Row rs c
+  pub row : RecordAt rs c
   row = row-of w c (omega (arith, one-self c))
 
-  pub row₁ : Row r₁ c
+  pub row₁ : RecordAt r₁ c
   row₁ = row-length r₁ (written-length rs c id q p) row
 
   price₁ : field r₁ 2 c ≡ p
@@ -88,7 +88,7 @@ module _ {n : ℕ} {rs lv ov : List ℕ} {s t c r : ℕ} {ws vs : List Lvl} {fr 
     new-c : times c (ups us) ≡ 0
     new-c = rw e (omega (arith, once-c))
 
-    pub append-needs : (k * 3 + 2 < length lw) × Row r₁ c × (1 ≤ tc → Row r₁ tc)
+    pub append-needs : (k * 3 + 2 < length lw) × RecordAt r₁ c × (1 ≤ tc → RecordAt r₁ tc)
     append-needs = (omega (arith, a .room), row₁, row-t k c a nodes₁ km new-c row₁ (price₁ ∙ sym pk))
 
     more-times : (x : ℕ) → times x (ups u₂) ≡ times x (ups ws) + one (eqb x c)
@@ -181,13 +181,13 @@ module _ {rs lv : List ℕ} {s c p : ℕ} (h : CanRest rs lv s c p) (id q : ℕ)
       (λ z. ⊎-elim (λ y. omega (arith, b .high k (omega arith) (omega arith), a .rising k i y g, a .level k (omega arith) .price, a .level i g .price))
       (λ y. let o : i ≡ k = omega arith in d (omega arith) (rw o at e)) (lt? k i)) (lt? i k))
 
-  module _ {m : ℕ} {r₁ lw : List ℕ} (e₁ : r₁ ≡ written rs c id q p) (y : Ready lv s k p m lw) where
-    pub append-asks : (k * 3 + 2 < length lw) × Row r₁ c × (1 ≤ getD lw (k * 3 + 2) 0 → Row r₁ (getD lw (k * 3 + 2) 0))
+  module _ {m : ℕ} {r₁ lw : List ℕ} (e₁ : r₁ ≡ recordWritten rs c id q p) (y : Ready lv s k p m lw) where
+    pub append-asks : (k * 3 + 2 < length lw) × RecordAt r₁ c × (1 ≤ getD lw (k * 3 + 2) 0 → RecordAt r₁ (getD lw (k * 3 + 2) 0))
     append-asks = rw e₁ (let w = h .stored in append-needs id q p k w (ready-side id q p k w b y) (ready-ups id q p k w b y) (ready-in id q p k w b y) (ready-price id q p k w b y))
 
     pub rests : {r₂ l₂ : List ℕ} {f : ℕ} → f ≡ field rs 3 c → r₂ ≡ appended r₁ (getD lw (k * 3 + 2) 0) c → l₂ ≡ set (linkLv lw (k * 3 + 1) (getD lw (k * 3 + 2) 0) c) (k * 3 + 2) c → Rests rs lv s c id q p r₂ l₂ m f
     rests ef e₂ d₂ =
-        let g : r₁ ≡ written rs c id q p = e₁ in
+        let g : r₁ ≡ recordWritten rs c id q p = e₁ in
         let e₃ = e₂ ∙ ap (λ (x : List ℕ). appended x (getD lw (k * 3 + 2) 0) c) e₁ in
         let w₀ = h .stored in
         rw (e₃, d₂, ef) (record {

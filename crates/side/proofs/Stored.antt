@@ -9,9 +9,9 @@ use lib.Dec.{eqb}
 use lib.ListN.{length, length-set}
 use borrow.Author.Tests.{eqb-false, eqb-true}
 use Rattle.rules.specs.Whole.{one}
-use Rattle.records.specs.Rows.{Row, field, put}
+use Rattle.records.specs.Rows.{RecordAt, field, put}
 use Rattle.records.proofs.Rows.{field-column, field-same, row-length}
-use Rattle.arena.specs.Free.{given}
+use Rattle.arena.specs.Free.{returned}
 use Rattle.arena.specs.Links.{linkLv, linkRs, untied}
 use Rattle.arena.specs.Ring.{cut}
 use Rattle.arena.specs.Times.{times}
@@ -38,7 +38,7 @@ swapped w = record {
 }
 
 module _ {n : ℕ} {rs lv ov : List ℕ} {s t f r : ℕ} {ws vs : List Lvl} {fr : List ℕ} (w : Stored n rs lv ov s t f r ws vs fr) where
-  pub row-of : (x : ℕ) → 1 ≤ times x (ups ws) + times x (ups vs) + times x fr → Row rs x
+  pub row-of : (x : ℕ) → 1 ≤ times x (ups ws) + times x (ups vs) + times x fr → RecordAt rs x
   row-of x i = isCode-row n x rs (w .rows) (omega (arith, w .once x))
 
   pub at-most-one : (x : ℕ) → one (eqb x 0) + (times x (ups ws) + times x (ups vs) + times x fr) ≤ 1
@@ -67,7 +67,7 @@ module _ {n : ℕ} {rs lv ov : List ℕ} {s t f r : ℕ} {ws vs : List Lvl} {fr 
   r₂ = untied rs pc nc
 
   abbrev r₃ : List ℕ
-  r₃ = given r₂ c f
+  r₃ = returned r₂ c f
 
   abbrev l₂ : List ℕ
   l₂ = linkLv (linkLv lv (k * 3 + 1) pc nc) (k * 3 + 2) nc pc
@@ -78,7 +78,7 @@ module _ {n : ℕ} {rs lv ov : List ℕ} {s t f r : ℕ} {ws vs : List Lvl} {fr 
   kw : k < length ws
   kw = omega (arith, w .mine .count)
 
-  row : Row rs c
+  row : RecordAt rs c
   row = row-of w c (omega (arith, nth-times c ws k kw))
 
   long₂ : length r₂ ≡ length rs
@@ -87,10 +87,10 @@ module _ {n : ℕ} {rs lv ov : List ℕ} {s t f r : ℕ} {ws vs : List Lvl} {fr 
   long : length r₃ ≡ length rs
   long = given-length r₂ c f ∙ long₂
 
-  row₂ : Row r₂ c
+  row₂ : RecordAt r₂ c
   row₂ = row-length r₂ long₂ row
 
-  row₁₂ : Row (put r₂ 1 c 0) c
+  row₁₂ : RecordAt (put r₂ 1 c 0) c
   row₁₂ = row-length (put r₂ 1 c 0) (length-set r₂ ((c - 1) * 5 + 1) 0) row₂
 
   pub gone-times : (x : ℕ) → times x (ups w₂) + one (eqb x c) ≡ times x (ups ws)

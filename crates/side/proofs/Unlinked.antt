@@ -10,14 +10,14 @@ use lib.ListN.{getD, length-set}
 use lib.Seq.{getD-set-other, getD-set-same}
 use borrow.Author.Tests.{eqb-false, eqb-true}
 use Rattle.rules.specs.Whole.{one}
-use Rattle.records.specs.Rows.{Row, field}
+use Rattle.records.specs.Rows.{RecordAt, field}
 use Rattle.arena.specs.Links.{link, linkLv, linkRs, untied}
 use Rattle.arena.specs.Ring.{Run, cut}
 use Rattle.arena.specs.Times.{times}
 use Rattle.arena.proofs.Links.{link-some, tie-column, tie-field, tie-lv-length, tie-off, tie-row, tie-rs-length, tie-same}
 use Rattle.arena.proofs.Ring.{after-in, before-in, cut-times, unlink-run}
 use Rattle.arena.proofs.Times.{one-other}
-use Rattle.side.specs.Levels.{Ladder, Level, Lvl, empty, nth}
+use Rattle.side.specs.Levels.{Ladder, LevelStored, Lvl, empty, nth}
 use Rattle.side.proofs.Levels.{Agree, Nodes, level-frame, node-row, nth-times, two-times, untied-agree, with, with-price}
 
 -- ## c out of row k's queue
@@ -51,10 +51,10 @@ module _ {rs lv : List ℕ} {n : ℕ} {ws : List Lvl} (k c : ℕ) (s : Ladder rs
   after-node =
       omega (arith, rw (link-some rs 3 (getD lv (k * 3 + 1) 0) c some-c) at (after-in (link rs 3 (getD lv (k * 3 + 1) 0)) (link rs 4 (getD lv (k * 3 + 2) 0)) 0 (nth ws k .queue) 0 c (omega arith) (s .level k kn .ring)))
 
-  pub row-p : 1 ≤ pc → Row rs pc
+  pub row-p : 1 ≤ pc → RecordAt rs pc
   row-p h = node-row k pc v (omega (arith, s .count)) before-node h
 
-  pub row-n : 1 ≤ nc → Row rs nc
+  pub row-n : 1 ≤ nc → RecordAt rs nc
   row-n h = node-row k nc v (omega (arith, s .count)) after-node h
 
   abbrev F : ℕ → ℕ
@@ -75,7 +75,7 @@ module _ {rs lv : List ℕ} {n : ℕ} {ws : List Lvl} (k c : ℕ) (s : Ladder rs
   B-is : (x : ℕ) → link r₁ 4 (getD l₁ (k * 3 + 2) 0) x ≡ B x
   B-is x = tie-column rs lv 3 4 (k * 3 + 1) (k * 3 + 2) pc nc x (omega arith) (omega arith) (omega arith) (omega arith)
 
-  row-n₁ : 1 ≤ nc → Row r₁ nc
+  row-n₁ : 1 ≤ nc → RecordAt r₁ nc
   row-n₁ h = let r = row-n h in record { some = r .some; inside = omega (arith, r .inside, tie-rs-length rs 3 pc nc) }
 
   cutF : G (B c) ≡ F c
@@ -114,7 +114,7 @@ module _ {rs lv : List ℕ} {n : ℕ} {ws : List Lvl} (k c : ℕ) (s : Ladder rs
       away : (i j : ℕ) → i ≢ k → j < 3 → getD l₂ (i * 3 + j) 0 ≡ getD lv (i * 3 + j) 0
       away i j d h = tie-row l₁ (k * 3 + 2) (i * 3 + j) nc pc (omega arith) ∙ tie-row lv (k * 3 + 1) (i * 3 + j) pc nc (omega arith)
 
-      go : (i : ℕ) → i < n → (t : Bool) → eqb i k ≡ t → Level r₂ (getD l₂ (i * 3) 0) (getD l₂ (i * 3 + 1) 0) (getD l₂ (i * 3 + 2) 0) (nth (with ws k (cut c (nth ws k .queue))) i)
+      go : (i : ℕ) → i < n → (t : Bool) → eqb i k ≡ t → LevelStored r₂ (getD l₂ (i * 3) 0) (getD l₂ (i * 3 + 1) 0) (getD l₂ (i * 3 + 2) 0) (nth (with ws k (cut c (nth ws k .queue))) i)
       go i h true e =
           let z : i ≡ k = eqb-true i k e in
           rw (z, getD-set-same ws k (record { price = nth ws k .price; queue = cut c (nth ws k .queue) }) (empty 0) (omega (arith, s .count)))

@@ -72,12 +72,3 @@ pub record Rests (rs lv : List ℕ) (s c id q p : ℕ) (rs′ lv′ : List ℕ) 
   pub named : field rs′ 0 c ≡ id
   pub holding : field rs′ 1 c ≡ q
   pub priced : field rs′ 2 c ≡ p
-
--- ## An order has less left
-pub record Lessens (rs : List ℕ) (c q : ℕ) (rs′ : List ℕ) : Type 0 where
-  pub stored : {n : ℕ} {lv ov : List ℕ} {s t f r : ℕ} {ws vs : List Lvl} {fr : List ℕ} → Stored n rs lv ov s t f r ws vs fr → 1 ≤ times c (ups ws) + times c (ups vs)
-      → Stored n rs′ lv ov s t f r ws vs fr
-  pub fields : (g x : ℕ) → g < 3 → 1 ≤ x → x ≢ c → field rs′ g x ≡ field rs g x
-  pub named : (x : ℕ) → field rs′ 0 x ≡ field rs 0 x
-  pub priced : (x : ℕ) → field rs′ 2 x ≡ field rs 2 x
-  pub holding : field rs′ 1 c ≡ q

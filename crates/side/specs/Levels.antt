@@ -31,7 +31,7 @@ downs [] = []
 downs (w ∷ ws) = downs ws ++ w .queue
 
 -- the row of three numbers p, h, t stores the level w: its price, its queue as a ring, and each order under its own price
-pub record Level (rs : List ℕ) (p h t : ℕ) (w : Lvl) : Type 0 where
+pub record LevelStored (rs : List ℕ) (p h t : ℕ) (w : Lvl) : Type 0 where
   pub price : p ≡ w .price
   pub ring : Run (link rs 3 h) (link rs 4 t) 0 (w .queue) 0
   pub priced : (x : ℕ) → 1 ≤ times x (w .queue) → field rs 2 x ≡ w .price
@@ -40,5 +40,5 @@ pub record Level (rs : List ℕ) (p h t : ℕ) (w : Lvl) : Type 0 where
 pub record Ladder (rs lv : List ℕ) (n : ℕ) (ws : List Lvl) : Type 0 where
   pub count : length ws ≡ n
   pub room : n * 3 ≤ length lv
-  pub level : (i : ℕ) → i < n → Level rs (priceOf lv i) (headOf lv i) (tailOf lv i) (nth ws i)
+  pub level : (i : ℕ) → i < n → LevelStored rs (priceOf lv i) (headOf lv i) (tailOf lv i) (nth ws i)
   pub rising : (i j : ℕ) → i < j → j < n → nth ws i .price < nth ws j .price

@@ -1,10 +1,16 @@
--- What becomes of a side's rows where a price is found, opened or shut: what the functions over them promise. Assumes nothing.
-use Prim.Native.Nat.{ℕ, _*_, _+_, _<_, _≤_}
+-- Whose turn it is among a side's rows, and what becomes of them where a price is found, opened or shut: what the functions over them promise. Assumes nothing.
+use Prim.Native.Nat.{ℕ, _*_, _+_, _-_, _<_, _≤_}
 use mathlib.Core.List.{List}
 use mathlib.Core.Logic.{_≢_}
 use mathlib.Core.Path.{_≡_}
 use lib.ListN.{getD, length}
+use Rattle.rules.specs.Rules.{Side, ask, bid}
 use Rattle.arena.specs.Links.{headOf, priceOf, tailOf}
+
+-- of the n rows of side sd the one whose turn it is when k are left: asks from the lowest price up, bids from the highest down
+abbrev pub rowInTurn : Side → ℕ → ℕ → ℕ
+rowInTurn bid n k = k - 1
+rowInTurn ask n k = n - k
 
 -- row k is a new one, of price p and no queue; those from k up to n moved up
 pub record Opened (lv : List ℕ) (n k p : ℕ) (lw : List ℕ) : Type 0 where

@@ -1,7 +1,7 @@
 -- The levels of a side, read off storage: with `chain`, which reads a queue, they are functions of the stored numbers. Assumes nothing.
 use Prim.Native.Nat.{suc, zero, ℕ}
 use mathlib.Core.List.{List, [], _∷_}
-use Rattle.records.specs.Rows.{places}
+use Rattle.records.specs.Rows.{recordCount}
 use Rattle.arena.specs.Free.{chain}
 use Rattle.arena.specs.Links.{headOf, priceOf}
 use Rattle.side.specs.Levels.{Lvl}
@@ -16,7 +16,7 @@ levelsOf m rs lv n = levelsFrom m rs lv 0 n
 
 -- the levels of the side stored in lv, n of them, and the free places from f on
 abbrev pub levelsIn : List ℕ → List ℕ → ℕ → List Lvl
-levelsIn rs lv n = levelsOf (places rs) rs lv n
+levelsIn rs lv n = levelsOf (recordCount rs) rs lv n
 
 abbrev pub freeIn : List ℕ → ℕ → List ℕ
-freeIn rs f = chain (places rs) rs f
+freeIn rs f = chain (recordCount rs) rs f

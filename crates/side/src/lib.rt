@@ -3,10 +3,11 @@ ghost use mathlib.Core.Path.{_≡_};
 ghost use mathlib.Core.Logic.{_≢_};
 ghost use Prim.Native.Nat.{_+_, _*_, _-_, _<_, _≤_};
 ghost use lib.ListN.{length};
-ghost use Rattle.records.specs.Rows.{Row};
+ghost use Rattle.records.specs.Rows.{RecordAt};
 ghost use Rattle.arena.specs.Links.{priceOf};
-ghost use Rattle.side.specs.Prices.{Opened, Closed, Rising, Bracket, Ready};
-ghost use Rattle.side.specs.Doors.{CanDiscard, Discards, CanRest, Rests, Lessens};
+ghost use Rattle.models.specs.Readings.{sideOf};
+ghost use Rattle.side.specs.Prices.{Opened, Closed, Rising, Bracket, Ready, rowInTurn};
+ghost use Rattle.side.specs.Doors.{CanDiscard, Discards, CanRest, Rests};
 use arena::HEAD;
 use arena::ROW;
 use arena::TAIL;
@@ -15,15 +16,28 @@ use arena::give_back;
 use arena::take;
 use arena::unlink;
 use arena::write;
+use models::Id;
+use models::Price;
+use models::Quantity;
+use models::Side;
 use records::PRICE;
-use records::QUANTITY;
 use records::load;
-use records::store;
+
+// Of n rows the one whose turn it is when k are left: asks from the lowest price up, bids from the highest down.
+pub fn visit(side: Side, n: usize, k: usize) -> usize
+    requires { ⌜ (0 < k) × (k ≤ n) ⌝ }
+    ensures { λ r. ⌜ (r ≡ rowInTurn (sideOf side) n k) × (r < n) ⌝ }
+{
+    match side {
+        Side::Bid => k - 1,
+        Side::Ask => n - k,
+    }
+}
 
 // An empty level of `price` at row k: the rows from k on move up by one.
-pub fn open_row(levels: &mut [u64], n: usize, k: usize, price: u64)
+pub fn open_row(levels: &mut [u64], n: usize, k: usize, price: Price)
     requires { ⌜ (k ≤ n) × (n * 3 + 3 ≤ length (now levels)) ⌝ }
-    ensures { λ _. ⌜ Opened (now (levels .entry)) n k price (now (levels .exit)) ⌝ }
+    ensures { λ _. ⌜ Opened (now (levels .entry)) n k (price .0) (now (levels .exit)) ⌝ }
 {
     let from = k * ROW;
     let mut j = n * ROW;
@@ -31,7 +45,7 @@ pub fn open_row(levels: &mut [u64], n: usize, k: usize, price: u64)
         j -= 1;
         levels[j + ROW] = levels[j];
     }
-    levels[from] = price;
+    levels[from] = price.0;
     levels[from + HEAD] = 0;
     levels[from + TAIL] = 0;
 }
@@ -56,12 +70,12 @@ pub struct Span {
 }
 
 // One halving.
-pub fn halve(levels: &[u64], n: usize, price: u64, lo: usize, hi: usize) -> Span
-    requires { ⌜ Rising (now levels) n × Bracket (now levels) n price lo hi × (lo < hi) ⌝ }
-    ensures { λ r. ⌜ Bracket (now (levels .entry)) n price (r .lo) (r .hi) × (r .hi - r .lo < hi - lo) ⌝ }
+pub fn halve(levels: &[u64], n: usize, price: Price, lo: usize, hi: usize) -> Span
+    requires { ⌜ Rising (now levels) n × Bracket (now levels) n (price .0) lo hi × (lo < hi) ⌝ }
+    ensures { λ r. ⌜ Bracket (now (levels .entry)) n (price .0) (r .lo) (r .hi) × (r .hi - r .lo < hi - lo) ⌝ }
 {
     let m = lo + (hi - lo) / 2;
-    if levels[m * ROW] < price {
+    if levels[m * ROW] < price.0 {
         Span { lo: m + 1, hi }
     } else {
         Span { lo, hi: m }
@@ -69,9 +83,9 @@ pub fn halve(levels: &[u64], n: usize, price: u64, lo: usize, hi: usize) -> Span
 }
 
 // The first row whose price is not below `price`.
-pub fn find_row(levels: &[u64], n: usize, price: u64) -> usize
+pub fn find_row(levels: &[u64], n: usize, price: Price) -> usize
     requires { ⌜ Rising (now levels) n ⌝ }
-    ensures { λ r. ⌜ Bracket (now (levels .entry)) n price r r ⌝ }
+    ensures { λ r. ⌜ Bracket (now (levels .entry)) n (price .0) r r ⌝ }
 {
     let mut s = Span { lo: 0, hi: n };
     while s.lo < s.hi {
@@ -81,12 +95,12 @@ pub fn find_row(levels: &[u64], n: usize, price: u64) -> usize
 }
 
 // A row of `price` at k, where the search for that price ended; the number of rows then.
-pub fn ready(levels: &mut [u64], n: usize, k: usize, price: u64) -> usize
-    requires { ⌜ (k ≤ n) × (n * 3 ≤ length (now levels)) × ((k < n → priceOf (now levels) k ≢ price) → n * 3 + 3 ≤ length (now levels)) ⌝ }
-    ensures { λ m. ⌜ Ready (now (levels .entry)) n k price m (now (levels .exit)) ⌝ }
+pub fn ready(levels: &mut [u64], n: usize, k: usize, price: Price) -> usize
+    requires { ⌜ (k ≤ n) × (n * 3 ≤ length (now levels)) × ((k < n → priceOf (now levels) k ≢ price .0) → n * 3 + 3 ≤ length (now levels)) ⌝ }
+    ensures { λ m. ⌜ Ready (now (levels .entry)) n k (price .0) m (now (levels .exit)) ⌝ }
 {
     if k < n {
-        if levels[k * ROW] == price {
+        if levels[k * ROW] == price.0 {
             return n;
         }
         open_row(levels, n, k, price);
@@ -108,12 +122,13 @@ pub fn rest(
     levels: &mut [u64],
     n: usize,
     free: u64,
-    id: u64,
-    quantity: u64,
-    price: u64,
+    id: Id,
+    quantity: Quantity,
+    price: Price,
 ) -> Ends
-    requires { ⌜ CanRest (now records) (now levels) n free price ⌝ }
-    ensures { λ r. ⌜ Rests (now (records .entry)) (now (levels .entry)) n free id quantity price (now (records .exit)) (now (levels .exit)) (r .rows) (r .free) ⌝ }
+    requires { ⌜ CanRest (now records) (now levels) n free (price .0) ⌝ }
+    ensures { λ r. ⌜ Rests (now (records .entry)) (now (levels .entry)) n free (id .0) (quantity .0) (price .0)
+        (now (records .exit)) (now (levels .exit)) (r .rows) (r .free) ⌝ }
 {
     let then = take(records, free);
     write(records, free, id, quantity, price);
@@ -128,7 +143,7 @@ pub fn discard(records: &mut [u64], levels: &mut [u64], n: usize, free: u64, c: 
     requires { ⌜ CanDiscard (now records) (now levels) n free c ⌝ }
     ensures { λ r. ⌜ Discards (now (records .entry)) (now (levels .entry)) n free c (now (records .exit)) (now (levels .exit)) (r .rows) (r .free) ⌝ }
 {
-    let price = load(records, PRICE, c);
+    let price = Price(load(records, PRICE, c));
     let k = find_row(levels, n, price);
     unlink(records, levels, k, c);
     give_back(records, free, c);
@@ -141,12 +156,4 @@ pub fn discard(records: &mut [u64], levels: &mut [u64], n: usize, free: u64, c: 
         };
     }
     Ends { rows: n, free: c }
-}
-
-// The order of code `c` has `quantity` left.
-pub fn lessen(records: &mut [u64], c: u64, quantity: u64)
-    requires { ⌜ Row (now records) c ⌝ }
-    ensures { λ _. ⌜ Lessens (now (records .entry)) c quantity (now (records .exit)) ⌝ }
-{
-    store(records, QUANTITY, c, quantity);
 }

@@ -6,7 +6,7 @@ use mathlib.Core.Path.{_≡_}
 use native.Mathlib.Omega.{arith}
 use Rattle.rules.specs.Rules.{Side}
 use Rattle.rules.specs.Whole.{Positive}
-use Rattle.records.specs.Rows.{places}
+use Rattle.records.specs.Rows.{recordCount}
 use Rattle.side.specs.Levels.{Lvl}
 use Rattle.side.specs.Orders.{codes, orders}
 use Rattle.side.specs.Read.{levelsIn}
@@ -18,7 +18,7 @@ use Rattle.survey.specs.Makers.{CanMatch, Laid}
 use Rattle.survey.proofs.Coming.{orders-each}
 
 module _ {n : ℕ} {rs lv ov : List ℕ} {s t f r : ℕ} {ws vs : List Lvl} {fr : List ℕ} (w : Stored n rs lv ov s t f r ws vs fr) where
-  pub places-are : places rs ≡ n
+  pub places-are : recordCount rs ≡ n
   places-are = omega (arith, w .rows)
 
   -- the levels are those that storage says

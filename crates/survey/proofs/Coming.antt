@@ -24,7 +24,7 @@ use Rattle.side.specs.Levels.{Ladder, Lvl, downs, nth, ups}
 use Rattle.side.specs.Orders.{codes, orderAt, orders}
 use Rattle.side.proofs.Leaving.{stands}
 use Rattle.side.proofs.Orders.{codes-times}
-use Rattle.survey.specs.Makers.{turn}
+use Rattle.side.specs.Prices.{rowInTurn}
 
 -- ## Orders at a list of codes
 
@@ -79,7 +79,7 @@ downs-last (v ∷ a) w = ap (λ (l : List ℕ). l ++ v .queue) (downs-last a w) 
 
 -- the queue of the level whose turn it is, and then those of the others
 pub coming-step : (sd : Side) (n : ℕ) (ws : List Lvl) (k : ℕ) → length ws ≡ n → 1 ≤ k → k ≤ n
-    → codes sd (coming sd n ws k) ≡ nth ws (turn sd n k) .queue ++ codes sd (coming sd n ws (k - 1))
+    → codes sd (coming sd n ws k) ≡ nth ws (rowInTurn sd n k) .queue ++ codes sd (coming sd n ws (k - 1))
 coming-step bid n ws zero e h g = absurd (let z : ⊥ = omega arith in z)
 coming-step bid n ws (suc j) e h g =
     let f : suc j - 1 ≡ j = omega arith in
@@ -107,7 +107,7 @@ coming-times ask n ws k x = omega (arith, part-times x (n - k) ws)
 
 -- the level whose turn it is has the best price of them
 pub coming-worse : {rs lv : List ℕ} {n : ℕ} {ws : List Lvl} (sd : Side) → Ladder rs lv n ws → (k x : ℕ) → 1 ≤ k → k ≤ n → 1 ≤ times x (codes sd (coming sd n ws k))
-    → asGood sd (nth ws (turn sd n k) .price) (field rs 2 x) ≡ true
+    → asGood sd (nth ws (rowInTurn sd n k) .price) (field rs 2 x) ≡ true
 coming-worse {rs} {lv} {n} {ws} bid s k x h g i =
     let v = stands (take k ws) x (omega (arith, codes-times bid x (take k ws))) in
     let b : v .at < k = omega (arith, v .below, length-take k ws) in

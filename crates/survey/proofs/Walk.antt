@@ -9,7 +9,7 @@ use Rattle.rules.specs.Rules.{matching, outcome}
 use Rattle.rules.specs.Whole.{one}
 use Rattle.rules.proofs.Basics.{within-worse}
 use Rattle.rules.proofs.Match.{idle-beyond, idle-done}
-use Rattle.records.specs.Rows.{Row, field}
+use Rattle.records.specs.Rows.{RecordAt, field}
 use Rattle.models.specs.Readings.{sideOf}
 use Rattle.arena.specs.Links.{headOf, link, priceOf, tailOf}
 use Rattle.arena.specs.Times.{times}
@@ -22,7 +22,8 @@ use Rattle.side.proofs.Levels.{nth-times}
 use Rattle.side.proofs.Orders.{codes-times}
 use Rattle.survey.specs.declared.Outlook.{Outlook}
 use Rattle.survey.specs.declared.Taker.{Taker}
-use Rattle.survey.specs.Makers.{CanMatch, turn}
+use Rattle.survey.specs.Makers.{CanMatch}
+use Rattle.side.specs.Prices.{rowInTurn}
 use Rattle.survey.specs.Surveyed.{met, surveyed}
 use Rattle.survey.specs.Taker.{kindOf, meets, metSide, takerOf}
 use Rattle.survey.proofs.Coming.{First, coming, coming-all, coming-none, coming-step, coming-worse, ending-first, ending-none, orders-all, run-ending}
@@ -67,7 +68,7 @@ module _ (rs lv : List ℕ) (n : ℕ) (u : Taker) where
 
   module _ (m : CanMatch rs lv n) where
     -- nothing is left
-    along-done : {s : Outlook} {cs : List ℕ} → s .left .0 ≡ 0 → Along s cs → Comes s
+    pub along-done : {s : Outlook} {cs : List ℕ} → s .left .0 ≡ 0 → Along s cs → Comes s
     unfolding tallied
     along-done {s} {cs} e a room fnd =
         let t = takerOf room u in
@@ -112,7 +113,7 @@ module _ (rs lv : List ℕ) (n : ℕ) (u : Taker) where
       pub prices-none : k ≤ 0 → Along s (ahead rs lv n u k) → Comes s
       prices-none h a = along-none (coming-none (metSide u) n (levelsIn rs lv n) k (m .laid .ladder .count) h) a
 
-      module _ (h : 1 ≤ k) {i : ℕ} (e : i ≡ turn (metSide u) n k) (b : i < n) where
+      module _ (h : 1 ≤ k) {i : ℕ} (e : i ≡ rowInTurn (metSide u) n k) (b : i < n) where
         pub prices-beyond : meets u (priceOf lv i) ≡ false → Along s (ahead rs lv n u k) → Comes s
         prices-beyond f a = along-beyond (λ x j.
             within-worse (sideOf (u .side)) (kindOf (u .any) (u .limit .0)) (nth (levelsIn rs lv n) i .price) (field rs 2 x)
@@ -149,7 +150,7 @@ module _ (rs lv : List ℕ) (n : ℕ) (u : Taker) where
         inside : 1 ≤ times c (ups (levelsIn rs lv n))
         inside = met-first .from c (omega (arith, one-self c))
 
-        pub queue-row : Row rs c
+        pub queue-row : RecordAt rs c
         queue-row = m .laid .rows c inside
 
         pub queue-less : 1 ≤ s .left .0 → (met rs c s) .left .0 < s .left .0

@@ -8,7 +8,7 @@ use Rattle.rules.specs.Whole.{one}
 use Rattle.records.specs.Rows.{field}
 use Rattle.models.specs.Sums.{capped, plusOf}
 use Rattle.survey.specs.declared.Outlook.{Outlook}
-use Rattle.survey.specs.Makers.{share}
+use Rattle.survey.specs.Makers.{gift}
 
 -- how many of these fills use their maker up
 unfoldable pub wholes : List (Fill (Unit {0})) → ℕ
@@ -23,7 +23,7 @@ surveyed o =
 -- the same once the maker at code c has been met besides
 abbrev pub met : List ℕ → ℕ → Outlook → Outlook
 met rs c s =
-    let g = share rs (s .left .0) c in
+    let g = gift rs (s .left .0) c in
     record {
       left = record { 0 = s .left .0 - g };
       fills = s .fills + 1;

@@ -5,9 +5,9 @@ ghost use mathlib.Core.Bool.{Bool};
 ghost use Prim.Native.Nat.{ℕ, _<_, _≤_};
 ghost use Rattle.side.specs.Orders.{ordersIn};
 ghost use Rattle.rules.specs.Rules.{outcome};
-ghost use Rattle.records.specs.Rows.{Row};
+ghost use Rattle.records.specs.Rows.{RecordAt};
 ghost use Rattle.survey.specs.Taker.{takerOf, metSide, meets};
-ghost use Rattle.survey.specs.Makers.{CanMatch, turn};
+ghost use Rattle.survey.specs.Makers.{CanMatch};
 ghost use Rattle.survey.specs.Surveyed.{met, surveyed};
 use arena::HEAD;
 use arena::ROW;
@@ -22,6 +22,7 @@ use records::NEXT;
 use records::PRICE;
 use records::QUANTITY;
 use records::load;
+use side::visit;
 
 // An order that comes in: it meets any price, or those as good as its limit.
 pub struct Taker {
@@ -41,34 +42,22 @@ pub struct Outlook {
 }
 
 // Whether the order meets a price.
-pub fn reaches(t: Taker, price: u64) -> bool
-    ensures { λ r. ⌜ r ≡ meets t price ⌝ }
+pub fn reaches(t: Taker, price: Price) -> bool
+    ensures { λ r. ⌜ r ≡ meets t (price .0) ⌝ }
 {
     if t.any {
         return true;
     }
     let side = t.side;
     match side {
-        Side::Bid => price <= t.limit.0,
-        Side::Ask => t.limit.0 <= price,
-    }
-}
-
-// The row whose turn it is when k of n are left: a bid meets asks from the lowest price up, an ask meets bids from the highest down.
-pub fn visit(t: Taker, n: usize, k: usize) -> usize
-    requires { ⌜ (0 < k) × (k ≤ n) ⌝ }
-    ensures { λ r. ⌜ (r ≡ turn (metSide t) n k) × (r < n) ⌝ }
-{
-    let side = t.side;
-    match side {
-        Side::Bid => n - k,
-        Side::Ask => k - 1,
+        Side::Bid => price.0 <= t.limit.0,
+        Side::Ask => t.limit.0 <= price.0,
     }
 }
 
 // One maker more.
 fn meet(records: &[u64], c: u64, s: Outlook) -> Outlook
-    requires { ⌜ Row (now records) c × (0 < s .left .0) × (s .fills < 18446744073709551615) × (s .used ≤ s .fills) ⌝ }
+    requires { ⌜ RecordAt (now records) c × (0 < s .left .0) × (s .fills < 18446744073709551615) × (s .used ≤ s .fills) ⌝ }
     ensures { λ r. ⌜ r ≡ met (now (records .entry)) c s ⌝ }
 {
     let quantity = load(records, QUANTITY, c);
@@ -110,18 +99,23 @@ pub fn survey(records: &[u64], levels: &[u64], n: usize, t: Taker) -> Outlook
             sum: 0,
         },
     };
+    let side = t.side;
+    let makers = side.opposite();
     let mut k = n;
+    if t.qty.0 == 0 {
+        return s;
+    }
     'prices: while 0 < k {
-        let at = visit(t, n, k) * ROW;
-        if !reaches(t, levels[at]) {
+        let at = visit(makers, n, k) * ROW;
+        if !reaches(t, Price(levels[at])) {
             break 'prices;
         }
         let mut c = levels[at + HEAD];
         while c != 0 {
+            s = meet(records, c, s);
             if s.left.0 == 0 {
                 break 'prices;
             }
-            s = meet(records, c, s);
             c = load(records, NEXT, c);
         }
         k -= 1;

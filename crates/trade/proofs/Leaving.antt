@@ -1,6 +1,6 @@
 -- The best orders of a side leave, one by one. Assumes nothing.
-use Prim.Native.Nat.{suc, zero, ℕ, _*_, _+_, _-_, _≤_}
-use mathlib.Core.Bool.{Bool, false, true}
+use Prim.Native.Nat.{suc, zero, ℕ, _+_, _-_, _≤_}
+use mathlib.Core.Bool.{Bool}
 use mathlib.Core.List.{List, _∷_}
 use mathlib.Core.Path.{ap, refl, sym, _∙_, _≡_}
 use native.Mathlib.Omega.{arith}
@@ -8,15 +8,15 @@ use lib.ListN.{drop, length, length-drop}
 use lib.Seq.{drop-drop}
 use borrow.Author.Tests.{eq-eqb}
 use Rattle.rules.specs.Rules.{Book, Side, ask, bid, book, own}
-use Rattle.arena.specs.Links.{headOf}
 use Rattle.arena.specs.Ring.{cut}
 use Rattle.arena.specs.Times.{times}
 use Rattle.arena.proofs.Times.{one-self}
 use Rattle.side.specs.Orders.{codes, orders}
 use Rattle.side.specs.Read.{levelsIn}
 use Rattle.side.proofs.Orders.{codes-times}
-use Rattle.ledger.specs.Desk.{Desk, Leaves, deskBook, found}
-use Rattle.ledger.specs.Doors.{On, dropIn, frontRow}
+use Rattle.ledger.specs.Stock.{Stock}
+use Rattle.ledger.specs.Desk.{Leaves, LeavesAs, Tidy, found, readBook}
+use Rattle.ledger.specs.Doors.{Fronted, RestsOn, dropped, frontOf}
 use Rattle.ledger.proofs.Best.{front-ask, front-bid}
 use Rattle.trade.specs.Trade.{swept}
 
@@ -36,31 +36,26 @@ first-goes rs fnd c cs l e = rw (e, eq-eqb c c refl)
 first-there : (c : ℕ) (cs l : List ℕ) → cs ≡ c ∷ l → 1 ≤ times c cs
 first-there c cs l e = omega (arith, ap (times c) e, one-self c)
 
-module _ {rs bd ak se : List ℕ} {r f nb na : ℕ} (w : Desk rs bd ak se r f nb na) where
-  pub ask-row : 1 ≤ length ((deskBook rs bd ak se nb na) .asks) → (1 ≤ na) × (na * 3 ≤ length ak)
-  ask-row h = (some-row ask rs ak (found se rs) na h, w .stored .theirs .room)
-
-  pub bid-row : 1 ≤ length ((deskBook rs bd ak se nb na) .bids) → (1 ≤ nb) × (nb * 3 ≤ length bd)
-  bid-row h = (some-row bid rs bd (found se rs) nb h, w .stored .mine .room)
+-- the best order of side sd: its row, that it rests there, and the book once it has left
+module _ {k : Stock} (w : Tidy k) where
+  pub front-row : (sd : Side) → 1 ≤ length (own sd (readBook k)) → Fronted sd (k .book) (k .bids) (k .asks)
+  front-row bid h = (some-row bid (k .records) (k .bids) (found (k .search) (k .records)) (k .book .bids) h, w .stored .mine .room)
+  front-row ask h = (some-row ask (k .records) (k .asks) (found (k .search) (k .records)) (k .book .asks) h, w .stored .theirs .room)
 
   module _ {c : ℕ} where
-    pub ask-there : 1 ≤ na → c ≡ headOf ak (frontRow true na) → On true c (levelsIn rs bd nb) (levelsIn rs ak na)
-    ask-there h e = let g = front-ask w h in rw e (first-there _ _ (g .0) (g .1))
+    pub front-there : (sd : Side) → 1 ≤ length (own sd (readBook k)) → c ≡ frontOf sd (k .book) (k .bids) (k .asks) → RestsOn sd c k
+    front-there bid h e =
+        let g = front-bid w (front-row bid h .0) in
+        rw e (omega (arith, first-there _ _ (g .0) (g .1), codes-times bid (frontOf bid (k .book) (k .bids) (k .asks)) (levelsIn (k .records) (k .bids) (k .book .bids))))
+    front-there ask h e = let g = front-ask w (front-row ask h .0) in rw e (first-there _ _ (g .0) (g .1))
 
-    pub bid-there : 1 ≤ nb → c ≡ headOf bd (frontRow false nb) → On false c (levelsIn rs bd nb) (levelsIn rs ak na)
-    bid-there h e =
-        let g = front-bid w h in
-        rw e (omega (arith, first-there _ _ (g .0) (g .1), codes-times bid (headOf bd (frontRow false nb)) (levelsIn rs bd nb)))
-
-    pub ask-goes : 1 ≤ na → c ≡ headOf ak (frontRow true na) → dropIn ask c rs se (levelsIn rs bd nb) (levelsIn rs ak na) ≡ swept ask 1 (deskBook rs bd ak se nb na)
-    ask-goes h e =
-        let g = front-ask w h in
-        rw e (λ k. record { bids = orders rs (found se rs) (codes bid (levelsIn rs bd nb)); asks = first-goes rs (found se rs) _ _ (g .0) (g .1) k })
-
-    pub bid-goes : 1 ≤ nb → c ≡ headOf bd (frontRow false nb) → dropIn bid c rs se (levelsIn rs bd nb) (levelsIn rs ak na) ≡ swept bid 1 (deskBook rs bd ak se nb na)
-    bid-goes h e =
-        let g = front-bid w h in
-        rw e (λ k. record { bids = first-goes rs (found se rs) _ _ (g .0) (g .1) k; asks = orders rs (found se rs) (codes ask (levelsIn rs ak na)) })
+    pub front-goes : (sd : Side) → 1 ≤ length (own sd (readBook k)) → c ≡ frontOf sd (k .book) (k .bids) (k .asks) → dropped sd c k ≡ swept sd 1 (readBook k)
+    front-goes bid h e =
+        let g = front-bid w (front-row bid h .0) in
+        rw e (λ j. record { bids = first-goes (k .records) (found (k .search) (k .records)) _ _ (g .0) (g .1) j; asks = readBook k .asks })
+    front-goes ask h e =
+        let g = front-ask w (front-row ask h .0) in
+        rw e (λ j. record { bids = readBook k .bids; asks = first-goes (k .records) (found (k .search) (k .records)) _ _ (g .0) (g .1) j })
 
 -- ## One after the other
 
@@ -77,24 +72,22 @@ swept-length : (sd : Side) (k : Book (Unit {0})) → length (own sd (swept sd 1 
 swept-length bid k = length-drop 1 (k .bids)
 swept-length ask k = length-drop 1 (k .asks)
 
--- k is the book before, all are to leave, and `left` of them are still there
-pub record Sweeping (sd : Side) (k : Book (Unit {0})) (all left : ℕ) (rs bd ak se : List ℕ) (r f nb na : ℕ) : Type 0 where
-  pub desk : Desk rs bd ak se r f nb na
-  pub there : left ≤ length (own sd (deskBook rs bd ak se nb na))
-  pub same : swept sd left (deskBook rs bd ak se nb na) ≡ swept sd all k
+-- b is the book before, all are to leave, and `left` of them are still there
+pub record Sweeping (sd : Side) (b : Book (Unit {0})) (all left : ℕ) (k : Stock) : Type 0 where
+  pub tidy : Tidy k
+  pub there : left ≤ length (own sd (readBook k))
+  pub same : swept sd left (readBook k) ≡ swept sd all b
 
-pub sweep-start : {rs bd ak se : List ℕ} {r f nb na : ℕ} (sd : Side) (all : ℕ) → Desk rs bd ak se r f nb na → all ≤ length (own sd (deskBook rs bd ak se nb na))
-    → Sweeping sd (deskBook rs bd ak se nb na) all all rs bd ak se r f nb na
-sweep-start sd all w h = record { desk = w; there = h; same = refl }
+pub sweep-start : {k : Stock} (sd : Side) (all : ℕ) → Tidy k → all ≤ length (own sd (readBook k)) → Sweeping sd (readBook k) all all k
+sweep-start sd all w h = record { tidy = w; there = h; same = refl }
 
-module _ {sd : Side} {all left : ℕ} {rs bd ak se : List ℕ} {r f nb na : ℕ} where
-  pub sweep-step : {k : Book (Unit {0})} {rs′ bd′ ak′ se′ : List ℕ} {r′ f′ nb′ na′ : ℕ} → 1 ≤ left → Sweeping sd k all left rs bd ak se r f nb na
-      → Leaves (swept sd 1 (deskBook rs bd ak se nb na)) rs′ bd′ ak′ se′ r′ f′ nb′ na′ → Sweeping sd k all (left - 1) rs′ bd′ ak′ se′ r′ f′ nb′ na′
-  sweep-step h s l = record {
-    desk = l .desk;
-    there = rw (l .book, swept-length sd (deskBook rs bd ak se nb na)) (omega (arith, s .there));
-    same = rw (l .book) (swept-on sd left (deskBook rs bd ak se nb na) h ∙ s .same);
+module _ {sd : Side} {all left : ℕ} {k : Stock} {b : Book (Unit {0})} (s : Sweeping sd b all left k) where
+  pub sweep-step : {k′ : Stock} → 1 ≤ left → LeavesAs (swept sd 1 (readBook k)) k′ → Sweeping sd b all (left - 1) k′
+  sweep-step h l = record {
+    tidy = l .desk;
+    there = rw (l .book, swept-length sd (readBook k)) (omega (arith, s .there));
+    same = rw (l .book) (swept-on sd left (readBook k) h ∙ s .same);
   }
 
-  pub sweep-done : {k : Book (Unit {0})} → left ≡ 0 → Sweeping sd k all left rs bd ak se r f nb na → Leaves (swept sd all k) rs bd ak se r f nb na
-  sweep-done e s = record { desk = s .desk; book = sym (swept-none sd (deskBook rs bd ak se nb na)) ∙ (ap (λ (m : ℕ). swept sd m (deskBook rs bd ak se nb na)) (sym e) ∙ s .same) }
+  pub sweep-done : left ≡ 0 → LeavesAs (swept sd all b) k
+  sweep-done e = record { desk = s .tidy; book = sym (swept-none sd (readBook k)) ∙ (ap (λ (m : ℕ). swept sd m (readBook k)) (sym e) ∙ s .same) }

@@ -8,9 +8,8 @@ use lib.ListN.{drop, length}
 use Rattle.rules.specs.Rules.{Book, Order, Side, ask, bid, book, lastPrice, lastQuantity, opposite, outcome, own}
 use Rattle.rules.specs.Whole.{Whole}
 use Rattle.rules.proofs.Basics.{opposite-twice, own-book}
-use Rattle.records.specs.Rows as rows
-use Rattle.records.specs.Rows.{field}
-use Rattle.search.specs.Seek.{lookup}
+use Rattle.records.specs.Rows.{field, recordCount}
+use Rattle.search.specs.Seek.{entryFor}
 use Rattle.models.specs.declared.Side as models
 use Rattle.models.specs.Readings.{sideOf}
 use Rattle.models.specs.Rows.{fillRow, places, written}
@@ -20,7 +19,8 @@ use Rattle.side.specs.Read.{freeIn, levelsIn}
 use Rattle.side.specs.Stored.{Stored}
 use Rattle.side.proofs.Orders.{orders-frame}
 use Rattle.ledger.specs.declared.OrderBook.{OrderBook}
-use Rattle.ledger.specs.Desk.{Desk, Leaves, Ledger, deskBook, found}
+use Rattle.ledger.specs.Stock.{Stock, stock}
+use Rattle.ledger.specs.Desk.{Ledger, LedgerIn, Leaves, LeavesAs, Tidy, found, readBook, storedBook}
 use Rattle.ledger.proofs.Desk.{leaves}
 use Rattle.ledger.proofs.Frame.{all-swapped, good-frame, look-frame}
 use Rattle.survey.specs.declared.Taker.{Taker}
@@ -29,10 +29,10 @@ use Rattle.survey.specs.Taker.{metSide, takerOf}
 use Rattle.survey.proofs.Able.{can-match}
 use Rattle.survey.proofs.Alike.{fills-alike}
 use Rattle.matching.specs.declared.Last.{Last}
-use Rattle.matching.specs.Carried.{CanCarry, Carries, fillsIn}
+use Rattle.matching.specs.Carried.{CanCarry, Carries, fillsMade}
 use Rattle.matching.specs.Thinned.{thinned}
 use Rattle.matching.proofs.Kept.{kept-makers, kept-others, kept-stored, thinned-length, used-are}
-use Rattle.trade.specs.Trade.{CanTrade, Trades, after, comes, swept}
+use Rattle.trade.specs.Trade.{CanTrade, Trades, afterTrade, comes, swept}
 use Rattle.trade.proofs.Leaving.{leaves-as}
 
 -- ## The ledger keeps
@@ -45,11 +45,11 @@ module _ {n : ℕ} {rs lv ov se : List ℕ} {s t f r : ℕ} {ws vs : List Lvl} {
   named : (x : ℕ) → field rs′ 0 x ≡ field rs 0 x
   named x = c .columns 0 x (omega arith) (omega arith)
 
-  same-look : (x : ℕ) → lookup se rs′ x ≡ lookup se rs x
+  same-look : (x : ℕ) → entryFor se rs′ x ≡ entryFor se rs x
   same-look x = look-frame a rs′ (still .rows) (λ y j. named y) x
 
   same-found : (x : ℕ) → found se rs′ x ≡ found se rs x
-  same-found x = ap (λ (k : ℕ). eqb k x) (ap (lookup se rs′) (named x) ∙ same-look (field rs 0 x))
+  same-found x = ap (λ (k : ℕ). eqb k x) (ap (entryFor se rs′) (named x) ∙ same-look (field rs 0 x))
 
   kept-ledger : Ledger n rs′ lv ov se s t f r ws vs fr
   kept-ledger = record {
@@ -80,14 +80,14 @@ of ask x y = y
 -- the desk as a ledger whose first side is sd, and back
 abbrev From : Side → List ℕ → List ℕ → List ℕ → List ℕ → List ℕ → ℕ → ℕ → ℕ → ℕ → Type 0
 From sd rs js bd ak se r f nb na =
-    Ledger (rows.places rs) js (of sd bd ak) (of (opposite sd) bd ak) se (of sd nb na) (of (opposite sd) nb na) f r
+    Ledger (recordCount rs) js (of sd bd ak) (of (opposite sd) bd ak) se (of sd nb na) (of (opposite sd) nb na) f r
     (levelsIn rs (of sd bd ak) (of sd nb na)) (levelsIn rs (of (opposite sd) bd ak) (of (opposite sd) nb na)) (freeIn rs f)
 
-view : {rs bd ak se : List ℕ} {r f nb na : ℕ} (sd : Side) → Desk rs bd ak se r f nb na → From sd rs rs bd ak se r f nb na
+view : {rs bd ak se : List ℕ} {r f nb na : ℕ} (sd : Side) → LedgerIn rs bd ak se r f nb na → From sd rs rs bd ak se r f nb na
 view bid w = w
 view ask w = all-swapped w
 
-own-is : (sd : Side) (rs bd ak se : List ℕ) (nb na : ℕ) → own sd (deskBook rs bd ak se nb na) ≡ orders rs (found se rs) (codes sd (levelsIn rs (of sd bd ak) (of sd nb na)))
+own-is : (sd : Side) (rs bd ak se : List ℕ) (nb na : ℕ) → own sd (storedBook rs bd ak se nb na) ≡ orders rs (found se rs) (codes sd (levelsIn rs (of sd bd ak) (of sd nb na)))
 own-is bid rs bd ak se nb na = refl
 own-is ask rs bd ak se nb na = refl
 
@@ -104,9 +104,9 @@ swept-book ask n l m = refl
 
 -- ## The two steps
 
-module _ {rs bd ak se : List ℕ} {r f nb na : ℕ} (w : Desk rs bd ak se r f nb na) (u : Taker) where
+module _ {rs bd ak se : List ℕ} {r f nb na : ℕ} (w : LedgerIn rs bd ak se r f nb na) (u : Taker) where
   abbrev k : Book (Unit {0})
-  k = deskBook rs bd ak se nb na
+  k = storedBook rs bd ak se nb na
 
   abbrev sd : Side
   sd = metSide u
@@ -125,7 +125,7 @@ module _ {rs bd ak se : List ℕ} {r f nb na : ℕ} (w : Desk rs bd ak se r f nb
           (back sd rs rs′ bd ak se r f nb na _ _ (kept-ledger (view sd w) c) (kept-own (view sd w) c room) (kept-other (view sd w) c (opposite sd)))
 
       -- so many makers are there to leave
-      pub can-sweep : {n : ℕ} → ((room : ℕ) → n ≡ wholes ((comes room u k) .fills)) → n ≤ length (own sd (deskBook rs′ bd ak se nb na))
+      pub can-sweep : {n : ℕ} → ((room : ℕ) → n ≡ wholes ((comes room u k) .fills)) → n ≤ length (own sd (storedBook rs′ bd ak se nb na))
       can-sweep {n} e =
           let t = takerOf 0 u in
           rw (carried 0 .book, own-book sd (thinned t (own sd k)) (own (opposite sd) k), thinned-length t (t .quantity) (own sd k), e 0)
@@ -133,7 +133,7 @@ module _ {rs bd ak se : List ℕ} {r f nb na : ℕ} (w : Desk rs bd ak se r f nb
 
       -- and once they have left
       pub swept-leaves : {n r′ f′ nb′ na′ : ℕ} {rs″ bd′ ak′ se′ : List ℕ} → ((room : ℕ) → n ≡ wholes ((comes room u k) .fills))
-          → Leaves (swept sd n (deskBook rs′ bd ak se nb na)) rs″ bd′ ak′ se′ r′ f′ nb′ na′ → (room : ℕ) → Leaves (after room u k) rs″ bd′ ak′ se′ r′ f′ nb′ na′
+          → Leaves (swept sd n (storedBook rs′ bd ak se nb na)) rs″ bd′ ak′ se′ r′ f′ nb′ na′ → (room : ℕ) → Leaves (afterTrade room u k) rs″ bd′ ak′ se′ r′ f′ nb′ na′
       swept-leaves {n} e m room =
           let t = takerOf room u in
           leaves-as
@@ -148,25 +148,23 @@ module _ {rs bd ak se : List ℕ} {r f nb na : ℕ} (w : Desk rs bd ak se r f nb
 met-is : (u : Taker) {x : models.Side} → u .side ≡ x → metSide u ≡ opposite (sideOf x)
 met-is u e = ap (λ (y : models.Side). opposite (sideOf y)) e
 
-module _ {u : Taker} {n : ℕ} {rs bd ak se out : List ℕ} {b : OrderBook} (m : CanTrade u n rs bd ak se out b) {x : models.Side} (e : u .side ≡ x) where
+module _ {u : Taker} {n : ℕ} {rs bd ak se out : List ℕ} {b : OrderBook} (m : CanTrade u n (stock b rs bd ak se) out) {x : models.Side} (e : u .side ≡ x) where
   pub trade-carry : CanCarry u rs (of (opposite (sideOf x)) bd ak) (of (opposite (sideOf x)) (b .bids) (b .asks)) out
-  trade-carry = rw (met-is u e) at (can-carry (m .desk) u (m .whole) {out = out} (m .room))
+  trade-carry = rw (met-is u e) at (can-carry (m .tidy) u (m .whole) {out = out} (m .room))
 
   module _ {rs′ out′ : List ℕ} {l : Last} (c : Carries u rs (of (opposite (sideOf x)) bd ak) (of (opposite (sideOf x)) (b .bids) (b .asks)) out rs′ out′ l) where
     there : Carries u rs (of (metSide u) bd ak) (of (metSide u) (b .bids) (b .asks)) out rs′ out′ l
     there = rw (met-is u e) c
 
-    pub trade-sweep : Desk rs′ bd ak se (b .resting) (b .free) (b .bids) (b .asks) × (n ≤ length (own (opposite (sideOf x)) (deskBook rs′ bd ak se (b .bids) (b .asks))))
-    trade-sweep = (carried (m .desk) u (m .whole) there 0 .desk, rw (met-is u e) at (can-sweep (m .desk) u (m .whole) there (m .used)))
+    pub trade-sweep : Tidy (stock b rs′ bd ak se) × (n ≤ length (own (opposite (sideOf x)) (readBook (stock b rs′ bd ak se))))
+    trade-sweep = (carried (m .tidy) u (m .whole) there 0 .desk, rw (met-is u e) at (can-sweep (m .tidy) u (m .whole) there (m .used)))
 
-    fills-are : (room : ℕ) → fillsIn u rs (of (metSide u) bd ak) (of (metSide u) (b .bids) (b .asks)) room (found se rs) ≡ (comes room u (deskBook rs bd ak se (b .bids) (b .asks))) .fills
+    fills-are : (room : ℕ) → fillsMade u rs (of (metSide u) bd ak) (of (metSide u) (b .bids) (b .asks)) room (found se rs) ≡ (comes room u (readBook (stock b rs bd ak se))) .fills
     fills-are room = ap (λ (x : List (Order (Unit {0}))). (outcome (takerOf room u) x) .fills) (sym (own-is (metSide u) rs bd ak se (b .bids) (b .asks)))
 
-    pub trades : {rs″ bd′ ak′ se′ : List ℕ} {b′ : OrderBook}
-        → Leaves (swept (opposite (sideOf x)) n (deskBook rs′ bd ak se (b .bids) (b .asks))) rs″ bd′ ak′ se′ (b′ .resting) (b′ .free) (b′ .bids) (b′ .asks)
-        → Trades u (deskBook rs bd ak se (b .bids) (b .asks)) out rs″ bd′ ak′ se′ out′ (record { book = b′; last = l })
+    pub trades : {k′ : Stock} → LeavesAs (swept (opposite (sideOf x)) n (readBook (stock b rs′ bd ak se))) k′ → Trades u (readBook (stock b rs bd ak se)) out k′ out′ l
     trades v = record {
-      book = swept-leaves (m .desk) u (m .whole) there (m .used) (rw (met-is u e) v);
+      book = swept-leaves (m .tidy) u (m .whole) there (m .used) (rw (met-is u e) v);
       fills = λ room. there .fills room (found se rs) ∙ ap (written fillRow out 0) (fills-are room);
       price = λ room. there .price room (found se rs) ∙ ap lastPrice (fills-are room);
       quantity = λ room. there .quantity room (found se rs) ∙ ap lastQuantity (fills-are room);

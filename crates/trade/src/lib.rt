@@ -1,10 +1,10 @@
 // An order trades: it is carried out on the makers, and those that it uses up leave. What is left of the order is a matter of the caller.
-ghost use mathlib.Core.Path.{_≡_};
 ghost use Prim.Native.Nat.{_≤_};
 ghost use lib.ListN.{length};
 ghost use Rattle.rules.specs.Rules.{own};
-ghost use Rattle.ledger.specs.Desk.{Desk, Leaves, deskBook};
-ghost use Rattle.ledger.specs.Doors.{sideOf};
+ghost use Rattle.models.specs.Readings.{sideOf};
+ghost use Rattle.ledger.specs.Stock.{stock};
+ghost use Rattle.ledger.specs.Desk.{Tidy, LeavesAs, readBook};
 ghost use Rattle.trade.specs.Trade.{CanTrade, Trades, swept};
 use ledger::OrderBook;
 use ledger::discard;
@@ -27,19 +27,15 @@ fn leave(
     asks: &mut [u64],
     search: &mut [u64],
     b: OrderBook,
-    ask: bool,
+    side: Side,
 ) -> OrderBook
-    requires { ⌜ Desk (now records) (now bids) (now asks) (now search) (b .resting) (b .free) (b .bids) (b .asks)
-        × (1 ≤ length (own (sideOf ask) (deskBook (now records) (now bids) (now asks) (now search) (b .bids) (b .asks)))) ⌝ }
-    ensures { λ r. ⌜ Leaves (swept (sideOf ask) 1 (deskBook (now (records .entry)) (now (bids .entry)) (now (asks .entry)) (now (search .entry)) (b .bids) (b .asks)))
-        (now (records .exit)) (now (bids .exit)) (now (asks .exit)) (now (search .exit)) (r .resting) (r .free) (r .bids) (r .asks) ⌝ }
+    requires { ⌜ Tidy (stock b (now records) (now bids) (now asks) (now search))
+        × (1 ≤ length (own (sideOf side) (readBook (stock b (now records) (now bids) (now asks) (now search))))) ⌝ }
+    ensures { λ r. ⌜ LeavesAs (swept (sideOf side) 1 (readBook (stock b (now (records .entry)) (now (bids .entry)) (now (asks .entry)) (now (search .entry)))))
+        (stock r (now (records .exit)) (now (bids .exit)) (now (asks .exit)) (now (search .exit))) ⌝ }
 {
-    if ask {
-        let c = front(asks, b.asks, true);
-        return discard(records, bids, asks, search, b, true, c);
-    }
-    let c = front(bids, b.bids, false);
-    discard(records, bids, asks, search, b, false, c)
+    let c = front(bids, asks, b, side);
+    discard(records, bids, asks, search, b, side, c)
 }
 
 // The `count` best orders of a side leave, one by one from the front.
@@ -49,18 +45,18 @@ pub fn sweep(
     asks: &mut [u64],
     search: &mut [u64],
     b: OrderBook,
-    ask: bool,
+    side: Side,
     count: usize,
 ) -> OrderBook
-    requires { ⌜ Desk (now records) (now bids) (now asks) (now search) (b .resting) (b .free) (b .bids) (b .asks)
-        × (count ≤ length (own (sideOf ask) (deskBook (now records) (now bids) (now asks) (now search) (b .bids) (b .asks)))) ⌝ }
-    ensures { λ r. ⌜ Leaves (swept (sideOf ask) count (deskBook (now (records .entry)) (now (bids .entry)) (now (asks .entry)) (now (search .entry)) (b .bids) (b .asks)))
-        (now (records .exit)) (now (bids .exit)) (now (asks .exit)) (now (search .exit)) (r .resting) (r .free) (r .bids) (r .asks) ⌝ }
+    requires { ⌜ Tidy (stock b (now records) (now bids) (now asks) (now search))
+        × (count ≤ length (own (sideOf side) (readBook (stock b (now records) (now bids) (now asks) (now search))))) ⌝ }
+    ensures { λ r. ⌜ LeavesAs (swept (sideOf side) count (readBook (stock b (now (records .entry)) (now (bids .entry)) (now (asks .entry)) (now (search .entry)))))
+        (stock r (now (records .exit)) (now (bids .exit)) (now (asks .exit)) (now (search .exit))) ⌝ }
 {
     let mut book = b;
     let mut left = count;
     while 0 < left {
-        book = leave(records, bids, asks, search, book, ask);
+        book = leave(records, bids, asks, search, book, side);
         left -= 1;
     }
     book
@@ -77,20 +73,20 @@ pub fn trade(
     used: usize,
     fills: &mut [u64],
 ) -> Traded
-    requires { ⌜ CanTrade t used (now records) (now bids) (now asks) (now search) (now fills) book ⌝ }
-    ensures { λ r. ⌜ Trades t (deskBook (now (records .entry)) (now (bids .entry)) (now (asks .entry)) (now (search .entry)) (book .bids) (book .asks)) (now (fills .entry))
-        (now (records .exit)) (now (bids .exit)) (now (asks .exit)) (now (search .exit)) (now (fills .exit)) r ⌝ }
+    requires { ⌜ CanTrade t used (stock book (now records) (now bids) (now asks) (now search)) (now fills) ⌝ }
+    ensures { λ r. ⌜ Trades t (readBook (stock book (now (records .entry)) (now (bids .entry)) (now (asks .entry)) (now (search .entry)))) (now (fills .entry))
+        (stock (r .book) (now (records .exit)) (now (bids .exit)) (now (asks .exit)) (now (search .exit))) (now (fills .exit)) (r .last) ⌝ }
 {
     let side = t.side;
     match side {
         Side::Bid => {
             let last = carry_out(records, asks, book.asks, t, fills);
-            let after = sweep(records, bids, asks, search, book, true, used);
+            let after = sweep(records, bids, asks, search, book, Side::Ask, used);
             Traded { book: after, last }
         }
         Side::Ask => {
             let last = carry_out(records, bids, book.bids, t, fills);
-            let after = sweep(records, bids, asks, search, book, false, used);
+            let after = sweep(records, bids, asks, search, book, Side::Bid, used);
             Traded { book: after, last }
         }
     }

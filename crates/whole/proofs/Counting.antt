@@ -8,7 +8,7 @@ use lib.Dec.{eqb}
 use lib.ListN.{length}
 use borrow.Author.Tests.{le-ltb, lt-ltb}
 use Rattle.rules.specs.Whole.{one}
-use Rattle.records.specs.Rows.{Row}
+use Rattle.records.specs.Rows.{RecordAt}
 use Rattle.records.proofs.Cases.{lt?, same?}
 use Rattle.arena.specs.Ring.{cut}
 use Rattle.arena.specs.Times.{isCode, times}
@@ -24,7 +24,7 @@ pub code-out : (n x : ℕ) → n < x → isCode n x ≡ 0
 code-out n zero h = refl
 code-out n (suc i) h = ap one (le-ltb i n (omega arith))
 
-pub code-row : (n x : ℕ) (rs : List ℕ) → length rs ≡ n * 5 → Row rs x → isCode n x ≡ 1
+pub code-row : (n x : ℕ) (rs : List ℕ) → length rs ≡ n * 5 → RecordAt rs x → isCode n x ≡ 1
 code-row n x rs e r = code-in n x (r .some) (omega (arith, r .some, r .inside))
 
 code-more : (n x : ℕ) → isCode (suc n) x ≡ isCode n x + one (eqb x (suc n))

@@ -1,7 +1,7 @@
 -- What a desk (the doors' invariant) says of the rules' book that it stands for: its orders stand in their turns, its counts are the book's,
 -- a price of its rows is an occupied one, and the best is at the front. Assumes nothing.
 use Prim.Native.Nat.{ℕ, _*_, _+_, _-_, _<_, _≤_}
-use mathlib.Core.Bool.{Bool, false, true}
+use mathlib.Core.Bool.{Bool, false}
 use mathlib.Core.List.{List, [], _∷_}
 use mathlib.Core.Logic.{_≢_}
 use mathlib.Core.Option.{some}
@@ -9,11 +9,11 @@ use mathlib.Core.Path.{ap, sym, _∙_, _≡_}
 use native.Mathlib.Omega.{arith}
 use lib.Dec.{leb}
 use lib.ListN.{length}
-use borrow.Author.Tests.{le-leb, leb-false, lt-leb}
+use borrow.Author.Tests.{leb-false}
 use Rattle.rules.specs.Rules.{Book, Side, Size, ask, best, bid, crowded, full, levels, occupied, own}
 use Rattle.rules.specs.Whole.{Once, Sorted}
-use Rattle.records.specs.Rows.{field, places}
-use Rattle.search.specs.Seek.{lookup}
+use Rattle.records.specs.Rows.{field, recordCount}
+use Rattle.search.specs.Seek.{entryFor}
 use Rattle.arena.specs.Links.{headOf, link, priceOf, tailOf}
 use Rattle.arena.specs.Ring.{Run}
 use Rattle.arena.specs.Times.{times}
@@ -26,20 +26,21 @@ use Rattle.side.proofs.Leaving.{stands}
 use Rattle.side.proofs.Levels.{nth-times}
 use Rattle.side.proofs.Orders.{codes-times, side-tiers}
 use Rattle.side.proofs.Stored.{at-most-one}
-use Rattle.ledger.specs.Desk.{Busy, Desk, deskBook, found}
-use Rattle.ledger.specs.Doors.{On, RoomOn, frontRow, sideOf}
+use Rattle.ledger.specs.Stock.{Stock}
+use Rattle.ledger.specs.Desk.{Busy, LedgerIn, Tidy, found, readBook, storedBook}
+use Rattle.ledger.specs.Doors.{RoomOn}
 use Rattle.ledger.proofs.Best.{busy-at, front-ask, front-bid, some-of}
 use Rattle.whole.specs.Whole.{Lengths}
-use Rattle.whole.proofs.Orders.{codes-length, levels-side, occupied-no, occupied-yes, orders-length, seen-most, sorted-side}
+use Rattle.whole.proofs.Orders.{codes-length, levels-side, occupied-no, orders-length, seen-most, sorted-side}
 
--- the rows of a side, and how many
-abbrev pub rowsOn : Bool → List ℕ → List ℕ → List ℕ
-rowsOn true bd ak = ak
-rowsOn false bd ak = bd
+-- how many rows a side has, and the price of the best
+abbrev pub countOn : Side → ℕ → ℕ → ℕ
+countOn bid nb na = nb
+countOn ask nb na = na
 
-abbrev pub countOn : Bool → ℕ → ℕ → ℕ
-countOn true nb na = na
-countOn false nb na = nb
+abbrev pub frontPrice : Side → List ℕ → List ℕ → ℕ → ℕ
+frontPrice bid bd ak nb = priceOf bd (nb - 1)
+frontPrice ask bd ak nb = priceOf ak 0
 
 -- ## One side
 
@@ -59,11 +60,6 @@ module _ {rs lv : List ℕ} {n : ℕ} {ws : List Lvl} (a : Ladder rs lv n ws) wh
       (s .at, k, a .level (s .at) k .price ∙ sym (a .level (s .at) k .priced x (s .inside)))
 
   module _ (fnd : ℕ → Bool) (s : Side) where
-    pub row-occupied : Busy ws → (i : ℕ) → i < n → occupied (priceOf lv i) (orders rs fnd (codes s ws)) ≡ true
-    row-occupied b i h =
-        let x = row-order b i h in
-        occupied-yes rs fnd (priceOf lv i) (codes s ws) (x .0) (omega (arith, x .1, codes-times s (x .0) ws)) (x .2)
-
     pub new-price : (p : ℕ) → ((i : ℕ) → i < n → priceOf lv i ≢ p) → occupied p (orders rs fnd (codes s ws)) ≡ false
     new-price p h = occupied-no rs fnd p (codes s ws) (λ x i e.
         let r = order-row x (omega (arith, codes-times s x ws)) in h (r .0) (r .1) (r .2 ∙ e))
@@ -91,9 +87,9 @@ module _ {rs lv : List ℕ} {n : ℕ} {ws : List Lvl} (a : Ladder rs lv n ws) wh
 
 -- ## The whole desk
 
-module _ {rs bd ak se : List ℕ} {r f nb na : ℕ} (w : Desk rs bd ak se r f nb na) where
+module _ {rs bd ak se : List ℕ} {r f nb na : ℕ} (w : LedgerIn rs bd ak se r f nb na) where
   abbrev kept : Book (Unit {0})
-  kept = deskBook rs bd ak se nb na
+  kept = storedBook rs bd ak se nb na
 
   -- the counts are the book's
   pub desk-resting : r ≡ length (kept .bids) + length (kept .asks)
@@ -107,23 +103,17 @@ module _ {rs bd ak se : List ℕ} {r f nb na : ℕ} (w : Desk rs bd ak se r f nb
         codes-length ask (levelsIn rs ak na),
       )
 
-  pub desk-prices : (b : Bool) → length (levels (own (sideOf b) kept)) ≡ countOn b nb na
-  desk-prices true = rows-levels (w .stored .theirs) (found se rs) ask (w .busy-two)
-  desk-prices false = rows-levels (w .stored .mine) (found se rs) bid (w .busy)
+  pub desk-prices : (s : Side) → length (levels (own s kept)) ≡ countOn s nb na
+  desk-prices bid = rows-levels (w .stored .mine) (found se rs) bid (w .busy)
+  desk-prices ask = rows-levels (w .stored .theirs) (found se rs) ask (w .busy-two)
 
   -- the book is full exactly where every place is taken
   module _ (z : Size) (p : ℕ) (l : Lengths z rs bd ak se) where
-    desk-full : full z kept (some p) ≡ leb (places rs) r
-    desk-full = let e : z .orders ≡ places rs = omega (arith, l .records) in rw e (ap (leb (places rs)) (sym desk-resting))
+    desk-full : full z kept (some p) ≡ leb (recordCount rs) r
+    desk-full = let e : z .orders ≡ recordCount rs = omega (arith, l .records) in rw e (ap (leb (recordCount rs)) (sym desk-resting))
 
-    pub place-open : r < places rs → full z kept (some p) ≡ false
-    place-open h = desk-full ∙ lt-leb (places rs) r h
-
-    pub open-place : full z kept (some p) ≡ false → r < places rs
-    open-place e = leb-false (places rs) r (sym desk-full ∙ e)
-
-    pub all-taken : places rs ≤ r → full z kept (some p) ≡ true
-    all-taken h = desk-full ∙ le-leb (places rs) r h
+    pub open-place : full z kept (some p) ≡ false → r < recordCount rs
+    open-place e = leb-false (recordCount rs) r (sym desk-full ∙ e)
 
   -- the orders stand in their turns, and at most one is found under an id
   pub desk-sorted : (s : Side) → Sorted s (own s kept)
@@ -132,7 +122,7 @@ module _ {rs bd ak se : List ℕ} {r f nb na : ℕ} (w : Desk rs bd ak se r f nb
 
   pub desk-once : Once kept
   desk-once i =
-      let c = lookup se rs i in
+      let c = entryFor se rs i in
       omega (
         arith,
         seen-most rs se i (codes bid (levelsIn rs bd nb)),
@@ -142,43 +132,24 @@ module _ {rs bd ak se : List ℕ} {r f nb na : ℕ} (w : Desk rs bd ak se r f nb
         at-most-one (w .stored) c,
       )
 
-  -- a price of a side's rows is occupied, and no other is
-  pub desk-occupied : (b : Bool) (i : ℕ) → i < countOn b nb na → occupied (priceOf (rowsOn b bd ak) i) (own (sideOf b) kept) ≡ true
-  desk-occupied true = row-occupied (w .stored .theirs) (found se rs) ask (w .busy-two)
-  desk-occupied false = row-occupied (w .stored .mine) (found se rs) bid (w .busy)
+  -- ## The front: the price of the row there is the best
 
-  pub desk-new : (b : Bool) (p : ℕ) → ((i : ℕ) → i < countOn b nb na → priceOf (rowsOn b bd ak) i ≢ p) → occupied p (own (sideOf b) kept) ≡ false
-  desk-new true = new-price (w .stored .theirs) (found se rs) ask
-  desk-new false = new-price (w .stored .mine) (found se rs) bid
-
-  -- what refusal 5 lets pass has room
-  pub desk-room : (z : Size) (b : Bool) (p : ℕ) → Lengths z rs bd ak se → crowded z (own (sideOf b) kept) (some p) ≡ false → RoomOn b bd ak nb na p
-  desk-room z true p l = not-crowded (w .stored .theirs) (found se rs) ask z p (w .busy-two) (l .asks)
-  desk-room z false p l = not-crowded (w .stored .mine) (found se rs) bid z p (w .busy) (l .bids)
-
-  -- ## The front
-
-  -- the best order's code stands in the row at the front
-  pub desk-front : (b : Bool) → 1 ≤ countOn b nb na → On b (headOf (rowsOn b bd ak) (frontRow b (countOn b nb na))) (levelsIn rs bd nb) (levelsIn rs ak na)
-  desk-front true h =
-      let x = front-ask w h in
-      omega (arith, ap (times (headOf ak 0)) (x .1), one-self (headOf ak 0))
-  desk-front false h =
-      let x = front-bid w h in
-      let c = headOf bd (nb - 1) in
-      omega (arith, ap (times c) (x .1), one-self c, codes-times bid c (levelsIn rs bd nb))
-
-  -- and its price is the best
-  pub desk-best : (b : Bool) → 1 ≤ countOn b nb na → best (own (sideOf b) kept) ≡ some (priceOf (rowsOn b bd ak) (frontRow b (countOn b nb na)))
-  desk-best true h =
-      let x = front-ask w h in
-      let e : field rs 2 (headOf ak 0) ≡ priceOf ak 0 = front-price (w .stored .theirs) (w .busy-two) 0 h in
-      rw (x .1) (ap some e)
-  desk-best false h =
+  pub desk-best : (s : Side) → 1 ≤ countOn s nb na → best (own s kept) ≡ some (frontPrice s bd ak nb)
+  desk-best bid h =
       let x = front-bid w h in
       let e : field rs 2 (headOf bd (nb - 1)) ≡ priceOf bd (nb - 1) = front-price (w .stored .mine) (w .busy) (nb - 1) (omega arith) in
       rw (x .1) (ap some e)
+  desk-best ask h =
+      let x = front-ask w h in
+      let e : field rs 2 (headOf ak 0) ≡ priceOf ak 0 = front-price (w .stored .theirs) (w .busy-two) 0 h in
+      rw (x .1) (ap some e)
 
-  pub desk-none : (b : Bool) → countOn b nb na ≡ 0 → own (sideOf b) kept ≡ []
-  desk-none true e = rw e
-  desk-none false e = rw e
+  pub desk-none : (s : Side) → countOn s nb na ≡ 0 → own s kept ≡ []
+  desk-none bid e = rw e
+  desk-none ask e = rw e
+
+-- what refusal 5 lets pass has room
+pub desk-room : {k : Stock} (w : Tidy k) (z : Size) (s : Side) (p : ℕ) → Lengths z (k .records) (k .bids) (k .asks) (k .search)
+    → crowded z (own s (readBook k)) (some p) ≡ false → RoomOn s k p
+desk-room {k} w z bid p l = not-crowded (w .stored .mine) (found (k .search) (k .records)) bid z p (w .busy) (l .bids)
+desk-room {k} w z ask p l = not-crowded (w .stored .theirs) (found (k .search) (k .records)) ask z p (w .busy-two) (l .asks)

@@ -6,7 +6,7 @@ use mathlib.Core.Path.{sym, _∙_, _≡_}
 use native.Mathlib.Omega.{arith}
 use lib.ListN.{length, length-append}
 use Rattle.rules.specs.Rules.{Size}
-use Rattle.records.specs.Rows.{Row, field}
+use Rattle.records.specs.Rows.{RecordAt, field}
 use Rattle.records.proofs.Cases.{lt?}
 use Rattle.search.specs.Seek.{Good, at}
 use Rattle.search.proofs.Entries.{row-inside}
@@ -16,8 +16,8 @@ use Rattle.arena.proofs.Times.{isCode-row, times-append}
 use Rattle.side.specs.Levels.{Ladder, ups}
 use Rattle.side.specs.Read.{freeIn, levelsIn}
 use Rattle.ledger.specs.declared.OrderBook.{OrderBook}
-use Rattle.whole.specs.Whole.{Lengths, Limits, Whole, restingIn}
-use Rattle.whole.specs.Check.{Parted, Sided, Table}
+use Rattle.whole.specs.Whole.{Lengths, Limits, WholeStorage, restingIn}
+use Rattle.whole.specs.Check.{Parted, SideRight, Table}
 use Rattle.whole.proofs.Counting.{all-long, all-once, code-row}
 use Rattle.whole.proofs.Sides.{Each, ladder-sided, side-bottom, side-once, side-top, sided-busy, sided-each, sided-ladder}
 use Rattle.whole.proofs.Spare.{Spared, spared-once}
@@ -26,8 +26,8 @@ use Rattle.whole.proofs.Spare.{Spared, spared-once}
 pub record Sums (z : Size) (b : OrderBook) (rs bd ak se : List ℕ) : Type 0 where
   pub lengths : Lengths z rs bd ak se
   pub limits : Limits z b
-  pub bids : Sided rs bd (b .bids)
-  pub asks : Sided rs ak (b .asks)
+  pub bids : SideRight rs bd (b .bids)
+  pub asks : SideRight rs ak (b .asks)
   pub parted : Parted bd ak (b .bids) (b .asks)
   pub sum : length (ups (levelsIn rs bd (b .bids))) + length (ups (levelsIn rs ak (b .asks))) ≡ b .resting
   pub spare : Spared rs (b .free) (freeIn rs (b .free))
@@ -48,7 +48,7 @@ module _ (n : ℕ) (b : OrderBook) (rs bd ak : List ℕ) (long : length rs ≡ n
   abbrev fc : List ℕ
   fc = freeIn rs (b .free)
 
-  resting-each : (c : ℕ) → 1 ≤ times c bc + times c ac → Row rs c × (1 ≤ field rs 1 c)
+  resting-each : (c : ℕ) → 1 ≤ times c bc + times c ac → RecordAt rs c × (1 ≤ field rs 1 c)
   resting-each c h = ⊎-elim (λ (l : times c bc < 1). ae c (omega arith)) (λ (l : 1 ≤ times c bc). be c l) (lt? (times c bc) 1)
 
   resting-once : (c : ℕ) → times c bc + times c ac ≤ 1
@@ -99,7 +99,7 @@ module _ (z : Size) (b : OrderBook) (rs bd ak se : List ℕ) where
   long-three = omega (arith, length-append (bl ++ al) fl, length-append bl al)
 
   -- counting is enough
-  pub whole : Sums z b rs bd ak se → Whole z b rs bd ak se
+  pub whole : Sums z b rs bd ak se → WholeStorage z b rs bd ak se
   whole s =
       let l = s .lengths in
       let bs = sided-ladder rs bd (b .bids) (s .bids) (omega (arith, l .bids, s .limits .bids)) in
@@ -137,9 +137,9 @@ module _ (z : Size) (b : OrderBook) (rs bd ak se : List ℕ) where
         near = u .near;
       }
 
-  module _ (w : Whole z b rs bd ak se) where
+  module _ (w : WholeStorage z b rs bd ak se) where
     -- a resting order is a record that has something
-    pub rests-row : (c : ℕ) → 1 ≤ times c (restingIn b rs bd ak) → Row rs c
+    pub rests-row : (c : ℕ) → 1 ≤ times c (restingIn b rs bd ak) → RecordAt rs c
     rests-row c h = isCode-row (z .orders) c rs (w .lengths .records) (omega (arith, w .once c))
 
     bid-each : Each rs (levelsIn rs bd (b .bids))
@@ -148,7 +148,7 @@ module _ (z : Size) (b : OrderBook) (rs bd ak se : List ℕ) where
     ask-each : Each rs (levelsIn rs ak (b .asks))
     ask-each c h = let k : 1 ≤ times c (restingIn b rs bd ak) = omega (arith, times-append c bl al) in (rests-row c k, w .some c k)
 
-    free-row : (c : ℕ) → 1 ≤ times c fl → Row rs c
+    free-row : (c : ℕ) → 1 ≤ times c fl → RecordAt rs c
     free-row c h = isCode-row (z .orders) c rs (w .lengths .records) (omega (arith, w .once c))
 
     -- the search is sound

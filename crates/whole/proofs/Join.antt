@@ -1,7 +1,7 @@
 -- A whole book gives the doors' invariant and the rules' whole book; and what a door leaves is whole again: its structure by the doors, the rest by the rules.
 -- Assumes nothing.
 use Prim.Native.Nat.{ℕ, _+_, _-_, _<_, _≤_}
-use mathlib.Core.Bool.{Bool, false, true}
+use mathlib.Core.Bool.{false}
 use mathlib.Core.List.{List, [], _++_}
 use mathlib.Core.Logic.{_≢_}
 use mathlib.Core.Path.{ap, sym, _∙_, _≡_}
@@ -9,11 +9,10 @@ use native.Mathlib.Omega.{arith}
 use lib.ListN.{length, length-append}
 use borrow.Author.Tests.{lt-leb}
 use Rattle.rules.specs.Rules.{Book, Size, ask, bid, limit, own, within}
-use Rattle.rules.specs.Whole.{All, Whole as Orderly, WholeBook, empty, seen, sorted[]}
-use Rattle.records.specs.Rows.{Row, field, places}
-use Rattle.search.specs.Seek.{at, lookup}
+use Rattle.rules.specs.Whole.{All, Whole, WholeBook, empty, seen, sorted[]}
+use Rattle.records.specs.Rows.{RecordAt, field, recordCount}
+use Rattle.search.specs.Seek.{at, entryFor}
 use Rattle.search.proofs.Walks.{held, own as own-place, sound}
-use Rattle.arena.specs.Links.{headOf}
 use Rattle.arena.specs.Times.{isCode, times}
 use Rattle.arena.proofs.Times.{times-append}
 use Rattle.side.specs.Levels.{ups}
@@ -22,21 +21,21 @@ use Rattle.side.specs.Read.{freeIn, levelsIn}
 use Rattle.side.specs.Stored.{Stored}
 use Rattle.side.proofs.Orders.{codes-times}
 use Rattle.ledger.specs.declared.OrderBook.{OrderBook}
-use Rattle.ledger.specs.Desk.{Desk, Leaves, deskBook, found}
-use Rattle.ledger.specs.Doors.{ApartAt, frontRow}
+use Rattle.ledger.specs.Desk.{LedgerIn, Leaves, storedBook, found}
+use Rattle.ledger.specs.Doors.{ApartAt}
 use Rattle.ledger.proofs.Apart.{apart-at}
-use Rattle.whole.specs.Whole.{Lengths, Whole, restingIn}
+use Rattle.whole.specs.Whole.{Lengths, WholeStorage, restingIn}
 use Rattle.whole.proofs.Counting.{all-once}
-use Rattle.whole.proofs.Desk.{countOn, desk-front, desk-once, desk-prices, desk-resting, desk-sorted, row-order, rowsOn}
+use Rattle.whole.proofs.Desk.{desk-once, desk-prices, desk-resting, desk-sorted, row-order}
 use Rattle.whole.proofs.Equal.{rests-row, whole-full, whole-good}
 use Rattle.whole.proofs.Orders.{all-at, all-of, split}
 use Rattle.whole.proofs.Sides.{side-bottom, side-top}
 
 -- as many records as the hall's orders
-pub places-is : {z : Size} {rs bd ak se : List ℕ} → Lengths z rs bd ak se → places rs ≡ z .orders
+pub places-is : {z : Size} {rs bd ak se : List ℕ} → Lengths z rs bd ak se → recordCount rs ≡ z .orders
 places-is l = omega (arith, l .records)
 
-module _ {z : Size} {b : OrderBook} {rs bd ak se : List ℕ} (w : Whole z b rs bd ak se) where
+module _ {z : Size} {b : OrderBook} {rs bd ak se : List ℕ} (w : WholeStorage z b rs bd ak se) where
   abbrev bc : List ℕ
   bc = ups (levelsIn rs bd (b .bids))
 
@@ -45,21 +44,21 @@ module _ {z : Size} {b : OrderBook} {rs bd ak se : List ℕ} (w : Whole z b rs b
 
   -- ## Down: the doors' invariant
 
-  stored : Stored (places rs) rs bd ak (b .bids) (b .asks) (b .free) (b .resting) (levelsIn rs bd (b .bids)) (levelsIn rs ak (b .asks)) (freeIn rs (b .free))
+  stored : Stored (recordCount rs) rs bd ak (b .bids) (b .asks) (b .free) (b .resting) (levelsIn rs bd (b .bids)) (levelsIn rs ak (b .asks)) (freeIn rs (b .free))
   stored =
-      let n : z .orders ≡ places rs = sym (places-is (w .lengths)) in
+      let n : z .orders ≡ recordCount rs = sym (places-is (w .lengths)) in
       record {
         rows = omega (arith, w .lengths .records, n);
         mine = w .bids;
         theirs = w .asks;
         free = w .free;
         none = w .none;
-        once = λ x. let o : times x (restingIn b rs bd ak) + times x (freeIn rs (b .free)) ≡ isCode (places rs) x = rw n at (w .once x) in omega (arith, times-append x bc ac);
+        once = λ x. let o : times x (restingIn b rs bd ak) + times x (freeIn rs (b .free)) ≡ isCode (recordCount rs) x = rw n at (w .once x) in omega (arith, times-append x bc ac);
         full = omega (arith, whole-full z b rs bd ak se w, n);
         rest = omega (arith, w .count, length-append bc ac);
       }
 
-  pub whole-desk : Desk rs bd ak se (b .resting) (b .free) (b .bids) (b .asks)
+  pub whole-desk : LedgerIn rs bd ak se (b .resting) (b .free) (b .bids) (b .asks)
   whole-desk = record {
     stored = stored;
     busy = w .bids-busy;
@@ -69,25 +68,15 @@ module _ {z : Size} {b : OrderBook} {rs bd ak se : List ℕ} (w : Whole z b rs b
     held = λ x n.
         let h = held se rs x (omega (arith, w .lengths .search, w .lengths .some)) n .0 in
         let r = w .rests (h .place) (h .below) (λ e. n (sym (h .holds) ∙ e)) in
-        let q : 1 ≤ times (lookup se rs x) (restingIn b rs bd ak) = rw (h .holds) at r in
-        omega (arith, times-append (lookup se rs x) bc ac);
+        let q : 1 ≤ times (entryFor se rs x) (restingIn b rs bd ak) = rw (h .holds) at r in
+        omega (arith, times-append (entryFor se rs x) bc ac);
   }
 
   -- what the search finds under an id rests, and has that id
-  pub whole-found : (x : ℕ) → lookup se rs x ≢ 0 → (1 ≤ times (lookup se rs x) (restingIn b rs bd ak)) × (field rs 0 (lookup se rs x) ≡ x)
+  pub whole-found : (x : ℕ) → entryFor se rs x ≢ 0 → (1 ≤ times (entryFor se rs x) (restingIn b rs bd ak)) × (field rs 0 (entryFor se rs x) ≡ x)
   whole-found x n =
       let h = whole-desk .held x n in
-      (omega (arith, times-append (lookup se rs x) bc ac), held se rs x (omega (arith, w .lengths .search, w .lengths .some)) n .1)
-
-  -- a resting order is a record and has something; so has the one at the front of a side
-  pub whole-order : (c : ℕ) → 1 ≤ times c bc + times c ac → Row rs c × (1 ≤ field rs 1 c)
-  whole-order c h =
-      let k : 1 ≤ times c (restingIn b rs bd ak) = omega (arith, times-append c bc ac) in
-      (rests-row z b rs bd ak se w c k, w .some c k)
-
-  pub whole-front : (t : Bool) → 1 ≤ countOn t (b .bids) (b .asks) → let c = headOf (rowsOn t bd ak) (frontRow t (countOn t (b .bids) (b .asks))) in Row rs c × (1 ≤ field rs 1 c)
-  whole-front true h = whole-order (headOf ak 0) (omega (arith, desk-front whole-desk true h))
-  whole-front false h = whole-order (headOf bd (b .bids - 1)) (omega (arith, desk-front whole-desk false h))
+      (omega (arith, times-append (entryFor se rs x) bc ac), held se rs x (omega (arith, w .lengths .search, w .lengths .some)) n .1)
 
   -- ## Down: the rules' whole book
 
@@ -104,7 +93,7 @@ module _ {z : Size} {b : OrderBook} {rs bd ak se : List ℕ} (w : Whole z b rs b
   ask-some : (x : ℕ) → 1 ≤ times x (codes ask (levelsIn rs ak (b .asks))) → 1 ≤ field rs 1 x
   ask-some x i = w .some x (omega (arith, times-append x bc ac))
 
-  orderly : Orderly (deskBook rs bd ak se (b .bids) (b .asks))
+  orderly : Whole (storedBook rs bd ak se (b .bids) (b .asks))
   orderly =
       let bw = levelsIn rs bd (b .bids) in
       let aw = levelsIn rs ak (b .asks) in
@@ -115,31 +104,31 @@ module _ {z : Size} {b : OrderBook} {rs bd ak se : List ℕ} (w : Whole z b rs b
           | ask ↦ all-of rs (found se rs) (λ m. 1 ≤ m .quantity) (codes ask aw) ask-some
         ];
         apart = λ s. elim s [
-          | bid ↦ all-of rs (found se rs) (λ m. All (λ n. within bid (limit (m .price)) (n .price) ≡ false) (own ask (deskBook rs bd ak se (b .bids) (b .asks)))) (codes bid bw)
+          | bid ↦ all-of rs (found se rs) (λ m. All (λ n. within bid (limit (m .price)) (n .price) ≡ false) (own ask (storedBook rs bd ak se (b .bids) (b .asks)))) (codes bid bw)
               (λ x i. all-of rs (found se rs) (λ n. within bid (limit (field rs 2 x)) (n .price) ≡ false) (codes ask aw)
               (λ y j. lt-leb (field rs 2 y) (field rs 2 x) (whole-apart x y (omega (arith, codes-times bid x bw)) j)))
-          | ask ↦ all-of rs (found se rs) (λ m. All (λ n. within ask (limit (m .price)) (n .price) ≡ false) (own bid (deskBook rs bd ak se (b .bids) (b .asks)))) (codes ask aw)
+          | ask ↦ all-of rs (found se rs) (λ m. All (λ n. within ask (limit (m .price)) (n .price) ≡ false) (own bid (storedBook rs bd ak se (b .bids) (b .asks)))) (codes ask aw)
               (λ x i. all-of rs (found se rs) (λ n. within ask (limit (field rs 2 x)) (n .price) ≡ false) (codes bid bw)
               (λ y j. lt-leb (field rs 2 x) (field rs 2 y) (whole-apart y x (omega (arith, codes-times bid y bw)) i)))
         ];
       }
 
-  pub whole-book : WholeBook z (deskBook rs bd ak se (b .bids) (b .asks))
+  pub whole-book : WholeBook z (storedBook rs bd ak se (b .bids) (b .asks))
   whole-book = record {
     orderly = orderly;
     once = desk-once whole-desk;
     fits = record {
       orders = omega (arith, desk-resting whole-desk, w .limits .orders);
       prices = λ s. elim s [
-        | bid ↦ omega (arith, desk-prices whole-desk false, w .limits .bids)
-        | ask ↦ omega (arith, desk-prices whole-desk true, w .limits .asks)
+        | bid ↦ omega (arith, desk-prices whole-desk bid, w .limits .bids)
+        | ask ↦ omega (arith, desk-prices whole-desk ask, w .limits .asks)
       ];
     };
   }
 
 -- ## Up: what a door leaves is whole again
 
-module _ {z : Size} {b : OrderBook} {rs bd ak se : List ℕ} (l : Lengths z rs bd ak se) (d : Desk rs bd ak se (b .resting) (b .free) (b .bids) (b .asks)) where
+module _ {z : Size} {b : OrderBook} {rs bd ak se : List ℕ} (l : Lengths z rs bd ak se) (d : LedgerIn rs bd ak se (b .resting) (b .free) (b .bids) (b .asks)) where
   abbrev bq : List ℕ
   bq = ups (levelsIn rs bd (b .bids))
 
@@ -163,7 +152,7 @@ module _ {z : Size} {b : OrderBook} {rs bd ak se : List ℕ} (l : Lengths z rs b
       let j : 1 ≤ times (at se p) bq + times (at se p) aq = rw e at k in
       omega (arith, times-append (at se p) bq aq)
 
-  pub desk-whole : WholeBook z (deskBook rs bd ak se (b .bids) (b .asks)) → Whole z b rs bd ak se
+  pub desk-whole : WholeBook z (storedBook rs bd ak se (b .bids) (b .asks)) → WholeStorage z b rs bd ak se
   desk-whole k =
       let bw = levelsIn rs bd (b .bids) in
       let aw = levelsIn rs ak (b .asks) in
@@ -196,7 +185,7 @@ pub lengths-kept : {z : Size} {rs bd ak se : List ℕ} (rs′ bd′ ak′ se′ 
 lengths-kept rs′ bd′ ak′ se′ r x y s l = record { some = l .some; records = r ∙ l .records; bids = x ∙ l .bids; asks = y ∙ l .asks; search = s ∙ l .search }
 
 -- what a door leaves, of a book that the rules keep whole
-pub leaves-whole : {z : Size} {b : OrderBook} {rs bd ak se : List ℕ} {k : Book (Unit {0})} → Lengths z rs bd ak se → Leaves k rs bd ak se (b .resting) (b .free) (b .bids) (b .asks) → WholeBook z k → Whole z b rs bd ak se
+pub leaves-whole : {z : Size} {b : OrderBook} {rs bd ak se : List ℕ} {k : Book (Unit {0})} → Lengths z rs bd ak se → Leaves k rs bd ak se (b .resting) (b .free) (b .bids) (b .asks) → WholeBook z k → WholeStorage z b rs bd ak se
 leaves-whole l v h = desk-whole l (v .desk) (rw (v .book) h)
 
 -- ## A fresh book
@@ -213,5 +202,5 @@ nothing-whole z = record {
   fits = record { orders = omega arith; prices = λ s. elim s [ bid ↦ omega arith | ask ↦ omega arith ] };
 }
 
-pub fresh-whole : {z : Size} {b : OrderBook} {rs bd ak se : List ℕ} → Lengths z rs bd ak se → Leaves (record { bids = []; asks = [] }) rs bd ak se (b .resting) (b .free) (b .bids) (b .asks) → Whole z b rs bd ak se
+pub fresh-whole : {z : Size} {b : OrderBook} {rs bd ak se : List ℕ} → Lengths z rs bd ak se → Leaves (record { bids = []; asks = [] }) rs bd ak se (b .resting) (b .free) (b .bids) (b .asks) → WholeStorage z b rs bd ak se
 fresh-whole {z} l v = leaves-whole l v (nothing-whole z)

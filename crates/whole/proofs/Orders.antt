@@ -13,7 +13,7 @@ use Rattle.rules.specs.Whole.{All, Sorted, empty, one, seen, sorted[], sorted�
 use Rattle.rules.proofs.Bounds.{joined-head}
 use Rattle.records.specs.Rows.{field}
 use Rattle.records.proofs.Cases.{lt?}
-use Rattle.search.specs.Seek.{lookup}
+use Rattle.search.specs.Seek.{entryFor}
 use Rattle.arena.specs.Times.{times}
 use Rattle.arena.proofs.Times.{one-self, times-append}
 use Rattle.side.specs.Levels.{Lvl, downs, ups}
@@ -137,33 +137,21 @@ module _ (rs : List ℕ) (fnd : ℕ → Bool) where
       )
 
   -- ## The prices they occupy
-  pub occupied-yes : (p : ℕ) (l : List ℕ) (x : ℕ) → 1 ≤ times x l → field rs 2 x ≡ p → occupied p (orders rs fnd l) ≡ true
-  unfolding occupied
-  occupied-yes p [] x i e = absurd (let z : ⊥ = omega arith in z)
-  occupied-yes p (y ∷ l) x i e =
-      each-more (λ z. field rs 2 z ≡ p → (eqb p (field rs 2 y) || occupied p (orders rs fnd l)) ≡ true) y l
-      (λ q. rw (eq-eqb p (field rs 2 y) (sym q)))
-      (λ z j q. rw (occupied-yes p l z j q) (or-true (eqb p (field rs 2 y)))) x i e
-    where
-      or-true : (b : Bool) → (b || true) ≡ true
-      or-true true = refl
-      or-true false = refl
-
   pub occupied-no : (p : ℕ) (l : List ℕ) → ((x : ℕ) → 1 ≤ times x l → field rs 2 x ≢ p) → occupied p (orders rs fnd l) ≡ false
   unfolding occupied
   occupied-no p [] h = refl
   occupied-no p (y ∷ l) h = rw (ne-eqb p (field rs 2 y) (λ e. h y (omega (arith, one-self y)) (sym e)), occupied-no p l (λ x i. h x (omega arith)))
 
 -- ## Those found under an id: only what the search finds there
-pub seen-most : (rs se : List ℕ) (i : ℕ) (l : List ℕ) → seen i (orders rs (found se rs) l) ≤ times (lookup se rs i) l
+pub seen-most : (rs se : List ℕ) (i : ℕ) (l : List ℕ) → seen i (orders rs (found se rs) l) ≤ times (entryFor se rs i) l
 unfolding seen
 seen-most rs se i [] = omega arith
 seen-most rs se i (x ∷ l) = go (found se rs x) refl (eqb (field rs 0 x) i) refl (seen-most rs se i l)
   where
-    go : (a : Bool) → found se rs x ≡ a → (b : Bool) → eqb (field rs 0 x) i ≡ b → seen i (orders rs (found se rs) l) ≤ times (lookup se rs i) l
-        → one (a && b) + seen i (orders rs (found se rs) l) ≤ one (eqb (lookup se rs i) x) + times (lookup se rs i) l
+    go : (a : Bool) → found se rs x ≡ a → (b : Bool) → eqb (field rs 0 x) i ≡ b → seen i (orders rs (found se rs) l) ≤ times (entryFor se rs i) l
+        → one (a && b) + seen i (orders rs (found se rs) l) ≤ one (eqb (entryFor se rs i) x) + times (entryFor se rs i) l
     go true e true f k =
-        let y : lookup se rs i ≡ x = sym (ap (lookup se rs) (eqb-true (field rs 0 x) i f)) ∙ eqb-true (lookup se rs (field rs 0 x)) x e in
-        omega (arith, ap one (eq-eqb (lookup se rs i) x y))
+        let y : entryFor se rs i ≡ x = sym (ap (entryFor se rs) (eqb-true (field rs 0 x) i f)) ∙ eqb-true (entryFor se rs (field rs 0 x)) x e in
+        omega (arith, ap one (eq-eqb (entryFor se rs i) x y))
     go true e false f k = omega arith
     go false e b f k = omega arith

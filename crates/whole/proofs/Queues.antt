@@ -8,7 +8,7 @@ use native.Mathlib.Omega.{arith}
 use lib.Dec.{eqb, leb}
 use lib.ListN.{length}
 use borrow.Author.Tests.{eq-eqb, eqb-false, eqb-true, le-leb, leb-true, lt-leb, ne-eqb}
-use Rattle.records.specs.Rows.{field, places}
+use Rattle.records.specs.Rows.{field, recordCount}
 use Rattle.records.proofs.Cases.{by, same?, tell}
 use Rattle.records.proofs.Rows.{places-row, row-places}
 use Rattle.arena.specs.Free.{chain}
@@ -18,7 +18,7 @@ use Rattle.arena.specs.Times.{times}
 use Rattle.arena.proofs.Free.{run-chain}
 use Rattle.arena.proofs.Once.{Ending, ending-once}
 use Rattle.arena.proofs.Times.{one-other, one-self}
-use Rattle.whole.specs.Check.{Queue, Under, fit, walked}
+use Rattle.whole.specs.Check.{QueueAt, Under, fit, walked}
 
 -- ## Chains
 
@@ -41,7 +41,7 @@ each-more P d l p k x h = ⊎-elim (λ (e : x ≡ d). rw e p) (λ (n : x ≢ d).
 -- ## One record
 
 pub record Fits (rs : List ℕ) (price p c : ℕ) : Type 0 where
-  pub inside : c ≤ places rs
+  pub inside : c ≤ recordCount rs
   pub some : 1 ≤ field rs 1 c
   pub own : field rs 2 c ≡ price
   pub back : field rs 4 c ≡ p
@@ -51,7 +51,7 @@ module _ (rs : List ℕ) (price p c : ℕ) where
   unfolding fit
   fit-is h =
       ⊎-elim
-      (λ (a : leb c (places rs) ≡ true). ⊎-elim
+      (λ (a : leb c (recordCount rs) ≡ true). ⊎-elim
       (λ (b : eqb (field rs 1 c) 0 ≡ true). absurd (tell (fit rs price p c) h (cc)))
       (λ (b : eqb (field rs 1 c) 0 ≡ false). ⊎-elim
       (λ (d : eqb (field rs 2 c) price ≡ true).
@@ -60,31 +60,31 @@ module _ (rs : List ℕ) (price p c : ℕ) where
       (λ (d : eqb (field rs 2 c) price ≡ false). absurd (tell (fit rs price p c) h (cc)))
       (by (eqb (field rs 2 c) price)))
       (by (eqb (field rs 1 c) 0)))
-      (λ (a : leb c (places rs) ≡ false). absurd (tell (fit rs price p c) h (cc)))
-      (by (leb c (places rs)))
+      (λ (a : leb c (recordCount rs) ≡ false). absurd (tell (fit rs price p c) h (cc)))
+      (by (leb c (recordCount rs)))
 
   pub is-fit : Fits rs price p c → fit rs price p c ≡ true
   unfolding fit
   is-fit h =
       let n : field rs 1 c ≢ 0 = omega (arith, h .some) in
-      rw (le-leb c (places rs) (h .inside), ne-eqb (field rs 1 c) 0 n, eq-eqb (field rs 2 c) price (h .own)) (eq-eqb (field rs 4 c) p (h .back))
+      rw (le-leb c (recordCount rs) (h .inside), ne-eqb (field rs 1 c) 0 n, eq-eqb (field rs 2 c) price (h .own)) (eq-eqb (field rs 4 c) p (h .back))
 
   -- what the test answers, from each of its exits
-  pub fit-out : places rs < c → fit rs price p c ≡ false
+  pub fit-out : recordCount rs < c → fit rs price p c ≡ false
   unfolding fit
-  fit-out h = rw (lt-leb c (places rs) h)
+  fit-out h = rw (lt-leb c (recordCount rs) h)
 
-  pub fit-none : c ≤ places rs → field rs 1 c ≡ 0 → fit rs price p c ≡ false
+  pub fit-none : c ≤ recordCount rs → field rs 1 c ≡ 0 → fit rs price p c ≡ false
   unfolding fit
-  fit-none h q = rw (le-leb c (places rs) h, eq-eqb (field rs 1 c) 0 q)
+  fit-none h q = rw (le-leb c (recordCount rs) h, eq-eqb (field rs 1 c) 0 q)
 
-  pub fit-off : c ≤ places rs → field rs 1 c ≢ 0 → field rs 2 c ≢ price → fit rs price p c ≡ false
+  pub fit-off : c ≤ recordCount rs → field rs 1 c ≢ 0 → field rs 2 c ≢ price → fit rs price p c ≡ false
   unfolding fit
-  fit-off h q n = rw (le-leb c (places rs) h, ne-eqb (field rs 1 c) 0 q, ne-eqb (field rs 2 c) price n)
+  fit-off h q n = rw (le-leb c (recordCount rs) h, ne-eqb (field rs 1 c) 0 q, ne-eqb (field rs 2 c) price n)
 
-  pub fit-last : (v : ℕ) → c ≤ places rs → field rs 1 c ≢ 0 → field rs 2 c ≡ price → v ≡ field rs 4 c → eqb v p ≡ fit rs price p c
+  pub fit-last : (v : ℕ) → c ≤ recordCount rs → field rs 1 c ≢ 0 → field rs 2 c ≡ price → v ≡ field rs 4 c → eqb v p ≡ fit rs price p c
   unfolding fit
-  fit-last v h q e i = rw (le-leb c (places rs) h, ne-eqb (field rs 1 c) 0 q, eq-eqb (field rs 2 c) price e, i)
+  fit-last v h q e i = rw (le-leb c (recordCount rs) h, ne-eqb (field rs 1 c) 0 q, eq-eqb (field rs 2 c) price e, i)
 
 -- ## The walk
 
@@ -171,11 +171,11 @@ module _ (rs : List ℕ) (price tail : ℕ) where
       rw q (walked-on (suc k) k p (suc r) n nz refl (is-fit rs price p (suc r) f) ∙ (right-walked head l k (suc r) (field rs 3 (suc r)) (n + 1) refl t (omega arith) ∙ omega arith))
 
 -- a walk within the records' number sees the whole queue
-module _ (rs : List ℕ) (price head tail m : ℕ) (l : m ≤ places rs) where
-  pub walk-queue : 1 ≤ walked rs price tail m 0 head 0 → Queue rs price head tail × (length (chain (places rs) rs head) ≡ walked rs price tail m 0 head 0)
+module _ (rs : List ℕ) (price head tail m : ℕ) (l : m ≤ recordCount rs) where
+  pub walk-queue : 1 ≤ walked rs price tail m 0 head 0 → QueueAt rs price head tail × (length (chain (recordCount rs) rs head) ≡ walked rs price tail m 0 head 0)
   walk-queue h =
       let w = walked-right rs price tail head m 0 head 0 refl h in
-      let s : chain m rs head ≡ chain (places rs) rs head = run-chain rs head (link rs 4 tail) (places rs) 0 (chain m rs head) (w .0 .ring) (chain-some m rs head) (omega (arith, chain-long m rs head)) in (
+      let s : chain m rs head ≡ chain (recordCount rs) rs head = run-chain rs head (link rs 4 tail) (recordCount rs) 0 (chain m rs head) (w .0 .ring) (chain-some m rs head) (omega (arith, chain-long m rs head)) in (
         record {
           ring = rw s at (w .0 .ring);
           busy = rw (← s) (omega (arith, w .1));
@@ -184,8 +184,8 @@ module _ (rs : List ℕ) (price head tail m : ℕ) (l : m ≤ places rs) where
         rw (← s) (omega (arith, w .1)),
       )
 
-  pub queue-walk : Queue rs price head tail → length (chain (places rs) rs head) ≤ m → walked rs price tail m 0 head 0 ≡ length (chain (places rs) rs head)
-  queue-walk q h = right-walked rs price tail head (chain (places rs) rs head) m 0 head 0 refl (record { ring = q .ring; under = q .under }) h ∙ omega arith
+  pub queue-walk : QueueAt rs price head tail → length (chain (recordCount rs) rs head) ≤ m → walked rs price tail m 0 head 0 ≡ length (chain (recordCount rs) rs head)
+  queue-walk q h = right-walked rs price tail head (chain (recordCount rs) rs head) m 0 head 0 refl (record { ring = q .ring; under = q .under }) h ∙ omega arith
 
 -- a queue has no order twice
 ring-ending : (rs : List ℕ) (head : ℕ) (B : ℕ → ℕ) (p : ℕ) (l : List ℕ) → Run (link rs 3 head) B p l 0 → ((x : ℕ) → 1 ≤ times x l → 1 ≤ x) → Ending (field rs 3) (link rs 3 head p) l

@@ -5,59 +5,59 @@ use mathlib.Core.Logic.{_≢_, ⊎-elim}
 use mathlib.Core.Path.{ap, refl, _≡_}
 use native.Mathlib.Omega.{arith}
 use lib.ListN.{length}
-use Rattle.records.specs.Rows.{Row, field, places}
+use Rattle.records.specs.Rows.{RecordAt, field, recordCount}
 use Rattle.records.proofs.Cases.{lt?, same?}
 use Rattle.arena.specs.Links.{headOf, link, priceOf, tailOf}
 use Rattle.arena.specs.Times.{times}
 use Rattle.arena.proofs.Times.{times-append}
-use Rattle.side.specs.Levels.{Ladder, Level, Lvl, nth, ups}
+use Rattle.side.specs.Levels.{Ladder, LevelStored, Lvl, nth, ups}
 use Rattle.side.specs.Read.{levelsIn}
 use Rattle.side.proofs.Leaving.{stands}
 use Rattle.side.proofs.Levels.{nth-times}
 use Rattle.side.proofs.Orders.{Tiers, side-tiers}
 use Rattle.ledger.specs.Desk.{Busy}
 use Rattle.ledger.proofs.Best.{busy-at}
-use Rattle.whole.specs.Check.{Queue, Rises, Sided, Totals, walked}
+use Rattle.whole.specs.Check.{QueueAt, Rises, SideRight, Totals, walked}
 use Rattle.whole.proofs.Levels.{in-row, levelAt, levels-first, levels-length, levels-more, levels-nth, row-in}
 use Rattle.whole.proofs.Queues.{queue-once, queue-walk, walk-queue}
 
 -- ## Counting row by row
 
 module _ (rs lv : List ℕ) where
-  side-none : Sided rs lv 0
+  side-none : SideRight rs lv 0
   side-none = record { queue = λ i h. absurd (let z : ⊥ = omega arith in z); rises = λ i h. absurd (let z : ⊥ = omega arith in z) }
 
-  side-more : (i : ℕ) → Sided rs lv i → Rises lv i → Queue rs (priceOf lv i) (headOf lv i) (tailOf lv i) → Sided rs lv (i + 1)
+  side-more : (i : ℕ) → SideRight rs lv i → Rises lv i → QueueAt rs (priceOf lv i) (headOf lv i) (tailOf lv i) → SideRight rs lv (i + 1)
   side-more i s u q = record {
     queue = λ j b. ⊎-elim (λ (w : j ≡ i). rw w q) (λ (w : j ≢ i). s .queue j (omega arith)) (same? j i);
     rises = λ j b. ⊎-elim (λ (w : j ≡ i). rw w u) (λ (w : j ≢ i). s .rises j (omega arith)) (same? j i);
   }
 
   -- a side that is right is counted
-  pub side-counts : (i n most sum : ℕ) → i < n → most ≤ places rs → Sided rs lv n → length (ups (levelsIn rs lv n)) ≤ most → length (ups (levelsIn rs lv i)) ≡ sum
+  pub side-counts : (i n most sum : ℕ) → i < n → most ≤ recordCount rs → SideRight rs lv n → length (ups (levelsIn rs lv n)) ≤ most → length (ups (levelsIn rs lv i)) ≡ sum
       → walked rs (priceOf lv i) (tailOf lv i) (most - sum) 0 (headOf lv i) 0 ≡ 0 → ⊥
   side-counts i n most sum h l s b e z =
       let q = s .queue i h in
       let w = queue-walk rs (priceOf lv i) (headOf lv i) (tailOf lv i) (most - sum) (omega arith) q (omega (arith, levels-more rs lv i, levels-first rs lv (i + 1) n (omega arith))) in
       omega (arith, w, q .busy)
 
-  pub totals-yes : (n most sum : ℕ) → Sided rs lv n → length (ups (levelsIn rs lv n)) ≡ sum → sum ≤ most → Totals rs lv n most sum
+  pub totals-yes : (n most sum : ℕ) → SideRight rs lv n → length (ups (levelsIn rs lv n)) ≡ sum → sum ≤ most → Totals rs lv n most sum
   totals-yes n most sum s e l = record { yea = λ _. (s, e); nay = λ h _ _. omega arith }
 
-  pub totals-no : (n most : ℕ) → (Sided rs lv n → length (ups (levelsIn rs lv n)) ≤ most → ⊥) → Totals rs lv n most (most + 1)
+  pub totals-no : (n most : ℕ) → (SideRight rs lv n → length (ups (levelsIn rs lv n)) ≤ most → ⊥) → Totals rs lv n most (most + 1)
   totals-no n most h = record { yea = λ l. absurd (omega arith); nay = λ _. h }
 
 -- i rows of n are counted, with `sum` orders
 pub record Going (rs lv : List ℕ) (n most sum i : ℕ) : Type 0 where
   pub below : i ≤ n
   pub within : sum ≤ most
-  pub side : Sided rs lv i
+  pub side : SideRight rs lv i
   pub total : length (ups (levelsIn rs lv i)) ≡ sum
 
 pub going-start : (rs lv : List ℕ) (n most : ℕ) → Going rs lv n most 0 0
 going-start rs lv n most = record { below = omega arith; within = omega arith; side = side-none rs lv; total = refl }
 
-pub going-on : (rs lv : List ℕ) (n most sum i q : ℕ) → Going rs lv n most sum i → i < n → most ≤ places rs → Rises lv i
+pub going-on : (rs lv : List ℕ) (n most sum i q : ℕ) → Going rs lv n most sum i → i < n → most ≤ recordCount rs → Rises lv i
     → (q ≡ walked rs (priceOf lv i) (tailOf lv i) (most - sum) 0 (headOf lv i) 0) × (q ≤ most - sum) → q ≢ 0 → Going rs lv n most (sum + q) (i + 1)
 going-on rs lv n most sum i q g h l u e z =
     let w = walk-queue rs (priceOf lv i) (headOf lv i) (tailOf lv i) (most - sum) (omega arith) (omega (arith, e .0)) in
@@ -73,9 +73,9 @@ going-end rs lv n most sum i g h =
 
 -- each order of a side is in range and has something
 abbrev pub Each : List ℕ → List Lvl → Type 0
-Each rs ws = (c : ℕ) → 1 ≤ times c (ups ws) → Row rs c × (1 ≤ field rs 1 c)
+Each rs ws = (c : ℕ) → 1 ≤ times c (ups ws) → RecordAt rs c × (1 ≤ field rs 1 c)
 
-module _ (rs lv : List ℕ) (n : ℕ) (s : Sided rs lv n) where
+module _ (rs lv : List ℕ) (n : ℕ) (s : SideRight rs lv n) where
   mono : (i j : ℕ) → i < j → j < n → priceOf lv i < priceOf lv j
   mono i zero h k = absurd (let z : ⊥ = omega arith in z)
   mono i (suc j) h k =
@@ -106,10 +106,10 @@ module _ (rs lv : List ℕ) (n : ℕ) (s : Sided rs lv n) where
       busy-of [] h = tt
       busy-of (w ∷ ws) h = (h 0 (omega arith), busy-of ws (λ i k. h (suc i) (omega arith)))
 
-pub ladder-sided : (rs lv : List ℕ) (n : ℕ) → Ladder rs lv n (levelsIn rs lv n) → Busy (levelsIn rs lv n) → Each rs (levelsIn rs lv n) → Sided rs lv n
+pub ladder-sided : (rs lv : List ℕ) (n : ℕ) → Ladder rs lv n (levelsIn rs lv n) → Busy (levelsIn rs lv n) → Each rs (levelsIn rs lv n) → SideRight rs lv n
 ladder-sided rs lv n a b e = record {
   queue = λ i h.
-      let v : Level rs (priceOf lv i) (headOf lv i) (tailOf lv i) (levelAt rs lv i) = rw (levels-nth rs lv n i h) at (a .level i h) in
+      let v : LevelStored rs (priceOf lv i) (headOf lv i) (tailOf lv i) (levelAt rs lv i) = rw (levels-nth rs lv n i h) at (a .level i h) in
       record {
         ring = v .ring;
         busy = rw (levels-nth rs lv n i h) at (busy-at (levelsIn rs lv n) i b (omega (arith, levels-length rs lv n)));
@@ -134,7 +134,7 @@ tiers-once rs (w ∷ ws) c t h =
     (lt? (times c (ups ws)) 1))
     (lt? (times c (w .queue)) 1)
 
-module _ {rs lv : List ℕ} {n : ℕ} {ws : List Lvl} (a : Ladder rs lv n ws) (rows : (c : ℕ) → 1 ≤ times c (ups ws) → Row rs c) where
+module _ {rs lv : List ℕ} {n : ℕ} {ws : List Lvl} (a : Ladder rs lv n ws) (rows : (c : ℕ) → 1 ≤ times c (ups ws) → RecordAt rs c) where
   pub side-once : (c : ℕ) → times c (ups ws) ≤ 1
   side-once c = tiers-once rs ws c (side-tiers a) (λ i h.
       let v = a .level i (omega (arith, a .count)) in

@@ -8,7 +8,7 @@ use native.Mathlib.Omega.{arith}
 use lib.Dec.{eqb, leb}
 use lib.ListN.{length}
 use borrow.Author.Tests.{eq-eqb, eqb-true, le-leb, leb-true, lt-leb, ne-eqb}
-use Rattle.records.specs.Rows.{Row, field, places}
+use Rattle.records.specs.Rows.{RecordAt, field, recordCount}
 use Rattle.records.proofs.Cases.{by, tell}
 use Rattle.records.proofs.Rows.{places-row, row-places}
 use Rattle.arena.specs.Free.{Chain, chain}
@@ -21,7 +21,7 @@ use Rattle.whole.proofs.Queues.{chain-some, each-more}
 
 -- a free place
 pub record Bare (rs : List ℕ) (c : ℕ) : Type 0 where
-  pub row : Row rs c
+  pub row : RecordAt rs c
   pub none : field rs 1 c ≡ 0
 
 -- the free places are l
@@ -30,21 +30,21 @@ pub record Spared (rs : List ℕ) (f : ℕ) (l : List ℕ) : Type 0 where
   pub bare : (x : ℕ) → 1 ≤ times x l → Bare rs x
 
 module _ (rs : List ℕ) where
-  pub idle-out : (c : ℕ) → places rs < c → idle rs c ≡ false
+  pub idle-out : (c : ℕ) → recordCount rs < c → idle rs c ≡ false
   unfolding idle
-  idle-out c h = rw (lt-leb c (places rs) h)
+  idle-out c h = rw (lt-leb c (recordCount rs) h)
 
-  pub idle-last : (c : ℕ) → c ≤ places rs → idle rs c ≡ eqb (field rs 1 c) 0
+  pub idle-last : (c : ℕ) → c ≤ recordCount rs → idle rs c ≡ eqb (field rs 1 c) 0
   unfolding idle
-  idle-last c h = rw (le-leb c (places rs) h)
+  idle-last c h = rw (le-leb c (recordCount rs) h)
 
-  pub idle-is : (c : ℕ) → idle rs c ≡ true → (c ≤ places rs) × (field rs 1 c ≡ 0)
+  pub idle-is : (c : ℕ) → idle rs c ≡ true → (c ≤ recordCount rs) × (field rs 1 c ≡ 0)
   unfolding idle
   idle-is c h =
       ⊎-elim
-      (λ (a : leb c (places rs) ≡ true). (leb-true _ _ a, eqb-true _ _ (cc)))
-      (λ (a : leb c (places rs) ≡ false). absurd (tell (idle rs c) h (cc)))
-      (by (leb c (places rs)))
+      (λ (a : leb c (recordCount rs) ≡ true). (leb-true _ _ a, eqb-true _ _ (cc)))
+      (λ (a : leb c (recordCount rs) ≡ false). absurd (tell (idle rs c) h (cc)))
+      (by (leb c (recordCount rs)))
 
   is-idle : (c : ℕ) → Bare rs c → idle rs c ≡ true
   is-idle c b = idle-last c (places-row (b .row)) ∙ eq-eqb _ _ (b .none)
@@ -98,14 +98,14 @@ module _ (rs : List ℕ) where
       rw (s .free .0) (idles-on (suc k) k d refl nz (is-idle d b) ∙ right-idles l k (field rs 3 d) (record { free = s .free .1; bare = λ x i. s .bare x (omega arith) }) (omega arith))
 
   -- k free places, all of them
-  pub spare-right : (k c : ℕ) → k ≤ places rs → idles rs k c ≡ true → Spared rs c (chain (places rs) rs c) × (length (chain (places rs) rs c) ≡ k)
+  pub spare-right : (k c : ℕ) → k ≤ recordCount rs → idles rs k c ≡ true → Spared rs c (chain (recordCount rs) rs c) × (length (chain (recordCount rs) rs c) ≡ k)
   spare-right k c h e =
       let w = idles-right k c e in
-      let s : chain k rs c ≡ chain (places rs) rs c = chain-chain rs (places rs) c (chain k rs c) (w .0 .free) (chain-some k rs c) (omega (arith, w .1)) in
+      let s : chain k rs c ≡ chain (recordCount rs) rs c = chain-chain rs (recordCount rs) c (chain k rs c) (w .0 .free) (chain-some k rs c) (omega (arith, w .1)) in
       (rw s at (w .0), rw (← s) (w .1))
 
-  pub right-spare : (k c : ℕ) → Spared rs c (chain (places rs) rs c) → length (chain (places rs) rs c) ≡ k → idles rs k c ≡ false → ⊥
-  right-spare k c s l e = tell (idles rs k c) (right-idles (chain (places rs) rs c) k c s l) e
+  pub right-spare : (k c : ℕ) → Spared rs c (chain (recordCount rs) rs c) → length (chain (recordCount rs) rs c) ≡ k → idles rs k c ≡ false → ⊥
+  right-spare k c s l e = tell (idles rs k c) (right-idles (chain (recordCount rs) rs c) k c s l) e
 
   -- no place is free twice
   spared-ending : (c : ℕ) (l : List ℕ) → Spared rs c l → Ending (field rs 3) c l

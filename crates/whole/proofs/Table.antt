@@ -7,7 +7,7 @@ use mathlib.Core.Path.{ap, refl, sym, _∙_, _≡_}
 use native.Mathlib.Omega.{arith}
 use lib.ListN.{length}
 use borrow.Author.Tests.{ne-eqb}
-use Rattle.records.specs.Rows.{Row, field, places}
+use Rattle.records.specs.Rows.{RecordAt, field, recordCount}
 use Rattle.records.proofs.Cases.{by, same?, tell}
 use Rattle.records.proofs.Rows.{row-places}
 use Rattle.search.specs.Seek.{at, dist, home, next, sought, stops, walk}
@@ -72,7 +72,7 @@ module _ (se rs : List ℕ) (id p : ℕ) (inn : p < length se) where
         })
 
     -- what stands in the way spoils the table, or ends the search
-    pub way-barred : q ≢ p → (Row rs (at se q) × (stops rs id (at se q) ≡ false) → ⊥) → Table se rs × ((sought se rs id) .place ≡ p) → ⊥
+    pub way-barred : q ≢ p → (RecordAt rs (at se q) × (stops rs id (at se q) ≡ false) → ⊥) → Table se rs × ((sought se rs id) .place ≡ p) → ⊥
     way-barred n w′ t =
         ⊎-elim
         (λ (s : stops rs id (at se q) ≡ true). n (sym (at-stop s) ∙ t .1))
@@ -82,19 +82,19 @@ module _ (se rs : List ℕ) (id p : ℕ) (inn : p < length se) where
 -- ## One entry
 
 module _ (rs : List ℕ) (id e v : ℕ) (is : v ≡ field rs 0 e) where
-  pub same-stops : v ≡ id → Row rs e × (stops rs id e ≡ false) → ⊥
+  pub same-stops : v ≡ id → RecordAt rs e × (stops rs id e ≡ false) → ⊥
   same-stops q h = tell (stops rs id e) (stops-named rs id e (row-inside (h .0)) (sym is ∙ q)) (h .1)
 
-  pub other-goes : v ≢ id → Row rs e → stops rs id e ≡ false
+  pub other-goes : v ≢ id → RecordAt rs e → stops rs id e ≡ false
   other-goes n r = stops-in rs id e (λ z. let y : ⊥ = omega (arith, r .some) in y) (row-inside r) ∙ ne-eqb _ _ (λ z. n (is ∙ z))
 
 -- the search for its own id ends at an entry
-pub own-stops : (rs : List ℕ) (e v : ℕ) → v ≡ field rs 0 e → 1 ≤ e → e ≤ places rs → stops rs v e ≡ true
+pub own-stops : (rs : List ℕ) (e v : ℕ) → v ≡ field rs 0 e → 1 ≤ e → e ≤ recordCount rs → stops rs v e ≡ true
 own-stops rs e v is h k = stops-named rs v e (row-inside (row-places rs e h k)) (sym is)
 
 -- the entry at place p, whose record has the id v
 module _ (se rs : List ℕ) (p v : ℕ) (is : v ≡ field rs 0 (at se p)) where
-  pub live-is : {b : Bool} → p < length se → at se p ≢ 0 → Row rs (at se p) → 1 ≤ field rs 1 (at se p)
+  pub live-is : {b : Bool} → p < length se → at se p ≢ 0 → RecordAt rs (at se p) → 1 ≤ field rs 1 (at se p)
       → Judges b ((sought se rs v) .place ≡ p) (Table se rs × ((sought se rs v) .place ≡ p)) → Judges b (Live se rs p) (Table se rs)
   live-is h n r s j = record {
     yea = λ e _. (r, s, rw (← is) (j .yea e));

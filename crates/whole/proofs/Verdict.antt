@@ -6,20 +6,20 @@ use mathlib.Core.Logic.{_≢_, ⊎-elim}
 use mathlib.Core.Path.{_≡_}
 use native.Mathlib.Omega.{arith}
 use Rattle.rules.specs.Rules.{Size}
-use Rattle.records.specs.Rows.{places}
+use Rattle.records.specs.Rows.{recordCount}
 use Rattle.records.proofs.Cases.{le?}
 use Rattle.ledger.specs.declared.OrderBook.{OrderBook}
-use Rattle.whole.specs.Whole.{Lengths, Limits, Whole}
+use Rattle.whole.specs.Whole.{Lengths, Limits, WholeStorage}
 use Rattle.whole.specs.Check.{Parted, Table, Totals, idles}
 use Rattle.whole.proofs.Equal.{sums, whole}
 use Rattle.whole.proofs.Spare.{right-spare, spare-right}
 
 module _ (z : Size) (b : OrderBook) (rs bd ak se : List ℕ) where
-  pub bids-wrong : (x : ℕ) → Totals rs bd (b .bids) (b .resting) x → b .resting < x → Whole z b rs bd ak se → ⊥
+  pub bids-wrong : (x : ℕ) → Totals rs bd (b .bids) (b .resting) x → b .resting < x → WholeStorage z b rs bd ak se → ⊥
   bids-wrong x h l w = let s = sums z b rs bd ak se w in h .nay l (s .bids) (omega (arith, s .sum))
 
   pub asks-wrong : (x y : ℕ) → Totals rs bd (b .bids) (b .resting) x → x ≤ b .resting → Totals rs ak (b .asks) (b .resting - x) y
-      → y ≢ b .resting - x → Whole z b rs bd ak se → ⊥
+      → y ≢ b .resting - x → WholeStorage z b rs bd ak se → ⊥
   asks-wrong x y h l k n w =
       let s = sums z b rs bd ak se w in
       let e = h .yea l .1 in
@@ -28,18 +28,18 @@ module _ (z : Size) (b : OrderBook) (rs bd ak se : List ℕ) where
       (λ (q : b .resting - x < y). k .nay q (s .asks) (omega (arith, s .sum)))
       (le? y (b .resting - x))
 
-  pub spare-wrong : idles rs (z .orders - b .resting) (b .free) ≡ false → Whole z b rs bd ak se → ⊥
+  pub spare-wrong : idles rs (z .orders - b .resting) (b .free) ≡ false → WholeStorage z b rs bd ak se → ⊥
   spare-wrong e w = let s = sums z b rs bd ak se w in right-spare rs (z .orders - b .resting) (b .free) (s .spare) (s .left) e
 
-  pub table-wrong : (Table se rs → ⊥) → Whole z b rs bd ak se → ⊥
+  pub table-wrong : (Table se rs → ⊥) → WholeStorage z b rs bd ak se → ⊥
   table-wrong n w = n (sums z b rs bd ak se w .table)
 
   pub verdict : (x y : ℕ) → Lengths z rs bd ak se → Limits z b → Totals rs bd (b .bids) (b .resting) x → x ≤ b .resting → Totals rs ak (b .asks) (b .resting - x) y → y ≡ b .resting - x
-      → Parted bd ak (b .bids) (b .asks) → idles rs (z .orders - b .resting) (b .free) ≡ true → Table se rs → Whole z b rs bd ak se
+      → Parted bd ak (b .bids) (b .asks) → idles rs (z .orders - b .resting) (b .free) ≡ true → Table se rs → WholeStorage z b rs bd ak se
   verdict x y l m h k i e g f t =
       let u = h .yea k in
       let v = i .yea (omega arith) in
-      let n : places rs ≡ z .orders = omega (arith, l .records) in
+      let n : recordCount rs ≡ z .orders = omega (arith, l .records) in
       let p = spare-right rs (z .orders - b .resting) (b .free) (omega arith) f in
       whole z b rs bd ak se (record {
         lengths = l;

@@ -6,7 +6,7 @@ use mathlib.Core.Logic.{_≢_}
 use mathlib.Core.Path.{_≡_}
 use lib.Dec.{eqb, leb}
 use lib.ListN.{length}
-use Rattle.records.specs.Rows.{Row, field, places}
+use Rattle.records.specs.Rows.{RecordAt, field, recordCount}
 use Rattle.search.specs.Seek.{at, sought}
 use Rattle.arena.specs.Free.{chain}
 use Rattle.arena.specs.Links.{headOf, link, priceOf, tailOf}
@@ -24,19 +24,19 @@ pub record Judges (b : Bool) (P Q : Type 0) : Type 0 where
 
 -- c is an order of this price
 pub record Under (rs : List ℕ) (price c : ℕ) : Type 0 where
-  pub row : Row rs c
+  pub row : RecordAt rs c
   pub some : 1 ≤ field rs 1 c
   pub own : field rs 2 c ≡ price
 
 -- the queue of a price: from its head on, tied both ways to its tail, occupied, and each of it an order of that price
-pub record Queue (rs : List ℕ) (price head tail : ℕ) : Type 0 where
-  pub ring : Run (link rs 3 head) (link rs 4 tail) 0 (chain (places rs) rs head) 0
-  pub busy : 1 ≤ length (chain (places rs) rs head)
-  pub under : (c : ℕ) → 1 ≤ times c (chain (places rs) rs head) → Under rs price c
+pub record QueueAt (rs : List ℕ) (price head tail : ℕ) : Type 0 where
+  pub ring : Run (link rs 3 head) (link rs 4 tail) 0 (chain (recordCount rs) rs head) 0
+  pub busy : 1 ≤ length (chain (recordCount rs) rs head)
+  pub under : (c : ℕ) → 1 ≤ times c (chain (recordCount rs) rs head) → Under rs price c
 
 -- whether the record of code c can stand in a queue of this price behind p
 unfoldable pub fit : List ℕ → ℕ → ℕ → ℕ → Bool
-fit rs price p c = cond (leb c (places rs)) (cond (eqb (field rs 1 c) 0) false (cond (eqb (field rs 2 c) price) (eqb (field rs 4 c) p) false)) false
+fit rs price p c = cond (leb c (recordCount rs)) (cond (eqb (field rs 1 c) 0) false (cond (eqb (field rs 2 c) price) (eqb (field rs 4 c) p) false)) false
 
 -- the length of a queue from c on, with p before it and n counted before; 0 where it is wrong or has more than k
 unfoldable pub walked : List ℕ → ℕ → ℕ → ℕ → ℕ → ℕ → ℕ → ℕ
@@ -52,14 +52,14 @@ abbrev pub Rises : List ℕ → ℕ → Type 0
 Rises lv i = 1 ≤ i → priceOf lv (i - 1) < priceOf lv i
 
 -- the first n rows of a side are right
-pub record Sided (rs lv : List ℕ) (n : ℕ) : Type 0 where
-  pub queue : (i : ℕ) → i < n → Queue rs (priceOf lv i) (headOf lv i) (tailOf lv i)
+pub record SideRight (rs lv : List ℕ) (n : ℕ) : Type 0 where
+  pub queue : (i : ℕ) → i < n → QueueAt rs (priceOf lv i) (headOf lv i) (tailOf lv i)
   pub rises : (i : ℕ) → i < n → Rises lv i
 
 -- r is the number of their orders, or more than `most` where they are wrong or have more
 pub record Totals (rs lv : List ℕ) (n most r : ℕ) : Type 0 where
-  pub yea : r ≤ most → Sided rs lv n × (length (ups (levelsIn rs lv n)) ≡ r)
-  pub nay : most < r → Sided rs lv n → length (ups (levelsIn rs lv n)) ≤ most → ⊥
+  pub yea : r ≤ most → SideRight rs lv n × (length (ups (levelsIn rs lv n)) ≡ r)
+  pub nay : most < r → SideRight rs lv n → length (ups (levelsIn rs lv n)) ≤ most → ⊥
 
 -- the highest bid is below the lowest ask
 abbrev pub Parted : List ℕ → List ℕ → ℕ → ℕ → Type 0
@@ -69,7 +69,7 @@ Parted bd ak nb na = 1 ≤ nb → 1 ≤ na → priceOf bd (nb - 1) < priceOf ak 
 
 -- whether c is a record with nothing
 unfoldable pub idle : List ℕ → ℕ → Bool
-idle rs c = cond (leb c (places rs)) (eqb (field rs 1 c) 0) false
+idle rs c = cond (leb c (recordCount rs)) (eqb (field rs 1 c) 0) false
 
 -- whether the chain from c has k records, each with nothing
 unfoldable pub idles : List ℕ → ℕ → ℕ → Bool
@@ -82,7 +82,7 @@ idles rs (suc k) (suc r) = cond (idle rs (suc r)) (idles rs k (field rs 3 (suc r
 
 -- place p of the search is free, or has a resting order at whose place the search for its id ends
 abbrev pub Live : List ℕ → List ℕ → ℕ → Type 0
-Live se rs p = at se p ≢ 0 → Row rs (at se p) × (1 ≤ field rs 1 (at se p)) × ((sought se rs (field rs 0 (at se p))) .place ≡ p)
+Live se rs p = at se p ≢ 0 → RecordAt rs (at se p) × (1 ≤ field rs 1 (at se p)) × ((sought se rs (field rs 0 (at se p))) .place ≡ p)
 
 pub record Table (se rs : List ℕ) : Type 0 where
   pub live : (p : ℕ) → p < length se → Live se rs p

@@ -1,6 +1,5 @@
 -- A whole book, as document 01 has it ('A whole book'), over the stored numbers: each sentence is a field, in its words and its order.
--- z is the size of the hall (orders, prices a side); b has the counts and the first free place; rs are the records, bd and ak the level rows of
--- bids and asks, se the places of the search. The definitions are those that the doors use: a record's `field`, the levels and the free places
+-- z is the size of the hall (orders, prices a side); the other short names are those of ledger's Stock.antt. The definitions are those that the doors use: a record's `field`, the levels and the free places
 -- as storage says (`levelsIn`, `freeIn`), a side's `Ladder`. Assumes nothing.
 use Prim.Native.Nat.{ℕ, _*_, _+_, _-_, _<_, _≤_}
 use mathlib.Core.List.{List, _++_}
@@ -16,6 +15,7 @@ use Rattle.arena.specs.Times.{isCode, times}
 use Rattle.side.specs.Levels.{Ladder, ups}
 use Rattle.side.specs.Read.{freeIn, levelsIn}
 use Rattle.ledger.specs.declared.OrderBook.{OrderBook}
+use Rattle.ledger.specs.Stock.{Stock}
 use Rattle.ledger.specs.Desk.{Busy}
 use Rattle.whole.specs.declared.Size.{Size as Given}
 
@@ -47,7 +47,7 @@ idAt se rs p = field rs 0 (at se p)
 abbrev pub homeAt : List ℕ → List ℕ → ℕ → ℕ
 homeAt se rs p = home (length se) (idAt se rs p)
 
-pub record Whole (z : Size) (b : OrderBook) (rs bd ak se : List ℕ) : Type 0 where
+pub record WholeStorage (z : Size) (b : OrderBook) (rs bd ak se : List ℕ) : Type 0 where
   -- Storage has the right lengths;
   pub lengths : Lengths z rs bd ak se
   -- counts are within limits, and the count of the resting orders is theirs;
@@ -74,3 +74,7 @@ pub record Whole (z : Size) (b : OrderBook) (rs bd ak se : List ℕ) : Type 0 wh
   pub only : (p q : ℕ) → p < length se → q < length se → at se p ≢ 0 → at se q ≢ 0 → idAt se rs p ≡ idAt se rs q → p ≡ q
   -- and keeps the rule above: no free place lies between an id's home and its place.
   pub near : (p q : ℕ) → p < length se → q < length se → at se p ≢ 0 → at se q ≡ 0 → dist (length se) (homeAt se rs p) p ≤ dist (length se) (homeAt se rs p) q
+
+-- the same of a stock
+abbrev pub WholeStock : Size → Stock → Type 0
+WholeStock z k = WholeStorage z (k .book) (k .records) (k .bids) (k .asks) (k .search)

@@ -5,9 +5,10 @@ ghost use mathlib.Core.Logic.{_≢_};
 ghost use mathlib.Core.Bool.{false, true};
 ghost use Prim.Native.Nat.{ℕ, _+_, _*_, _<_, _≤_};
 ghost use lib.ListN.{length};
-ghost use Rattle.records.specs.Rows.{Row, field, places};
-ghost use Rattle.search.specs.Seek.{Masks, Tells, at, home, next, sought, stops};
-ghost use Rattle.whole.specs.Whole.{Whole, Lengths, Limits, sizeOf};
+ghost use Rattle.records.specs.Rows.{RecordAt, field, recordCount};
+ghost use Rattle.search.specs.Seek.{Masks, Decides, at, home, next, sought, stops};
+ghost use Rattle.whole.specs.Whole.{WholeStock, Lengths, Limits, sizeOf};
+ghost use Rattle.ledger.specs.Stock.{stock};
 ghost use Rattle.whole.specs.Check.{Judges, fit, walked, Rises, Totals, Parted, idle, idles, Live, Table};
 use arena::HEAD;
 use arena::ROW;
@@ -30,12 +31,12 @@ pub struct Size {
 }
 
 // How many places of the search an order has.
-pub const PLACES: usize = 2;
+pub const PLACES_AN_ORDER: usize = 2;
 
 // Whether `len` numbers are exactly `rows` rows of `width`.
 fn fills(len: usize, rows: usize, width: usize) -> bool
     requires { ⌜ 1 ≤ width ⌝ }
-    ensures { λ r. ⌜ Tells r (len ≡ rows * width) ⌝ }
+    ensures { λ r. ⌜ Decides r (len ≡ rows * width) ⌝ }
 {
     if len / width != rows {
         return false;
@@ -48,7 +49,7 @@ fn fills(len: usize, rows: usize, width: usize) -> bool
 
 // Whether storage has the right lengths.
 pub fn is_sized(size: Size, records: &[u64], bids: &[u64], asks: &[u64], search: &[u64]) -> bool
-    ensures { λ r. ⌜ Tells r (Lengths (sizeOf size) (now (records .entry)) (now (bids .entry)) (now (asks .entry)) (now (search .entry))) ⌝ }
+    ensures { λ r. ⌜ Decides r (Lengths (sizeOf size) (now (records .entry)) (now (bids .entry)) (now (asks .entry)) (now (search .entry))) ⌝ }
 {
     if size.orders == 0 {
         return false;
@@ -62,12 +63,12 @@ pub fn is_sized(size: Size, records: &[u64], bids: &[u64], asks: &[u64], search:
     if !fills(asks.len(), size.prices, ROW) {
         return false;
     }
-    fills(search.len(), size.orders, PLACES)
+    fills(search.len(), size.orders, PLACES_AN_ORDER)
 }
 
 // Whether counts are within limits.
 fn is_limited(size: Size, book: OrderBook) -> bool
-    ensures { λ r. ⌜ Tells r (Limits (sizeOf size) book) ⌝ }
+    ensures { λ r. ⌜ Decides r (Limits (sizeOf size) book) ⌝ }
 {
     if size.orders < book.resting {
         return false;
@@ -125,7 +126,7 @@ fn queue_total(records: &[u64], price: u64, head: u64, tail: u64, most: usize) -
 // Whether row `i`'s price is above the one before.
 fn rises(levels: &[u64], i: usize) -> bool
     requires { ⌜ i * 3 < length (now levels) ⌝ }
-    ensures { λ r. ⌜ Tells r (Rises (now (levels .entry)) i) ⌝ }
+    ensures { λ r. ⌜ Decides r (Rises (now (levels .entry)) i) ⌝ }
 {
     if i == 0 {
         return true;
@@ -138,7 +139,7 @@ fn rises(levels: &[u64], i: usize) -> bool
 
 // How many orders the first `n` rows of a side have, or more than `most` where they are wrong or have more.
 fn side_total(records: &[u64], levels: &[u64], n: usize, most: usize) -> usize
-    requires { ⌜ (n * 3 ≤ length (now levels)) × (most ≤ places (now records)) ⌝ }
+    requires { ⌜ (n * 3 ≤ length (now levels)) × (most ≤ recordCount (now records)) ⌝ }
     ensures { λ r. ⌜ Totals (now (records .entry)) (now (levels .entry)) n most r ⌝ }
 {
     let mut sum = 0;
@@ -167,7 +168,7 @@ fn side_total(records: &[u64], levels: &[u64], n: usize, most: usize) -> usize
 // Whether the highest bid is below the lowest ask.
 fn is_parted(bids: &[u64], asks: &[u64], nb: usize, na: usize) -> bool
     requires { ⌜ (nb * 3 ≤ length (now bids)) × (na * 3 ≤ length (now asks)) ⌝ }
-    ensures { λ r. ⌜ Tells r (Parted (now (bids .entry)) (now (asks .entry)) nb na) ⌝ }
+    ensures { λ r. ⌜ Decides r (Parted (now (bids .entry)) (now (asks .entry)) nb na) ⌝ }
 {
     if nb == 0 {
         return true;
@@ -213,7 +214,7 @@ fn is_spare(records: &[u64], free: u64, count: usize) -> bool
 
 // Whether entry `e` stands in no one's way: it is the code of a record with another id.
 fn is_other(records: &[u64], e: u64, id: u64) -> bool
-    ensures { λ r. ⌜ Judges r (stops (now (records .entry)) id e ≡ false) (Row (now (records .entry)) e × (stops (now (records .entry)) id e ≡ false)) ⌝ }
+    ensures { λ r. ⌜ Judges r (stops (now (records .entry)) id e ≡ false) (RecordAt (now (records .entry)) e × (stops (now (records .entry)) id e ≡ false)) ⌝ }
 {
     if e == 0 {
         return false;
@@ -268,7 +269,7 @@ fn is_live(search: &[u64], records: &[u64], mask: u64, p: usize) -> bool
 // Whether the search keeps its rule and finds only orders.
 fn is_table(search: &[u64], records: &[u64]) -> bool
     requires { ⌜ 1 ≤ length (now search) ⌝ }
-    ensures { λ r. ⌜ Tells r (Table (now (search .entry)) (now (records .entry))) ⌝ }
+    ensures { λ r. ⌜ Decides r (Table (now (search .entry)) (now (records .entry))) ⌝ }
 {
     let mask = mask_of(search.len());
     let mut p = 0;
@@ -290,7 +291,7 @@ pub fn is_whole(
     asks: &[u64],
     search: &[u64],
 ) -> bool
-    ensures { λ r. ⌜ Tells r (Whole (sizeOf size) book (now (records .entry)) (now (bids .entry)) (now (asks .entry)) (now (search .entry))) ⌝ }
+    ensures { λ r. ⌜ Decides r (WholeStock (sizeOf size) (stock book (now (records .entry)) (now (bids .entry)) (now (asks .entry)) (now (search .entry)))) ⌝ }
 {
     if !is_sized(size, records, bids, asks, search) {
         return false;

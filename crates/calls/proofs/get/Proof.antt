@@ -1,8 +1,11 @@
 -- `calls::get` meets its contract: on a whole book it answers what the rules find, and the walk's count. Assumes nothing.
-use mathlib.Core.Path.{refl}
+use Prim.Native.Nat.{ℕ}
+use mathlib.Core.Path.{refl, ap}
 use borrow.Author.Tests.{not-true, not-false}
 use Rattle.whole.proofs.Join.{whole-desk}
+use Rattle.depth.specs.Answers.{foundOf}
 use Rattle.depth.proofs.Desk.{some-place}
+use Rattle.calls.specs.Answers.{value}
 use Rattle.calls.specs.Calls.{broken, found}
 use Rattle.calls.proofs.Answering.{search-found}
 use borrow.Author.Needs.{needs}
@@ -19,7 +22,7 @@ look-requires : tie.Need-look-requires
 look-requires c κs = some-place (whole-desk (c .before .is-whole .ensures .yea (not-false _ (c .if1 .left))))
 
 returns-2 : tie.Need-returns-2
-returns-2 c = let w = c .before .before .is-whole .ensures .yea (not-false _ (c .before .if1 .left)) in found w _ refl (λ st. search-found _ _ st (c .look .ensures .answer (whole-desk w))) (c .look .ensures .count)
+returns-2 c = let w = c .before .before .is-whole .ensures .yea (not-false _ (c .before .if1 .left)) in found w _ (λ st. search-found _ _ st (c .look .ensures .answer (whole-desk w))) (ap (λ (n : ℕ). value (foundOf (c .look .result .found), n)) (c .look .ensures .count))
 
 pub get-spec : {M : Type 1} → statement M
 get-spec = tie.close (tie.spec is-whole-requires returns look-requires returns-2)

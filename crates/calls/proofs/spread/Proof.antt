@@ -1,9 +1,10 @@
 -- `calls::spread` meets its contract: on a whole book the best bid is below the best ask. Assumes nothing.
-use mathlib.Core.Path.{refl}
+use mathlib.Core.Path.{refl, ap}
 use borrow.Author.Tests.{not-true, not-false}
 use Rattle.ledger.specs.Desk.{found}
 use Rattle.whole.proofs.Join.{whole-desk}
 use Rattle.depth.proofs.Desk.{standing-bids, standing-asks, rows-within}
+use Rattle.calls.specs.Answers.{value}
 use Rattle.calls.specs.Calls.{broken, told}
 use Rattle.calls.proofs.Answering.{below, spread-same}
 use borrow.Author.Needs.{needs}
@@ -26,7 +27,7 @@ between-requires : tie.Need-between-requires
 between-requires c κs = let w = c .before .before .before .is-whole .ensures .yea (not-false _ (c .before .before .if1 .left)) in let rs = c .before .before .before .before .before .before .before .before .args .records .now in let fnd = found (c .before .before .before .before .before .before .before .before .args .search .now) rs in below (record { book = c .before .before .before .before .before .before .before .before .args .book; records = rs; bids = c .before .before .before .before .before .before .before .before .args .bids .now; asks = c .before .before .before .before .before .before .before .before .args .asks .now; search = c .before .before .before .before .before .before .before .before .args .search .now }) w (c .before .first-occupied .result) (c .first-occupied2 .result) (c .before .first-occupied .ensures rs fnd (standing-bids (whole-desk w))) (c .first-occupied2 .ensures rs fnd (standing-asks (whole-desk w)))
 
 returns-2 : tie.Need-returns-2
-returns-2 c = let w = c .before .before .before .before .is-whole .ensures .yea (not-false _ (c .before .before .before .if1 .left)) in let rs = c .before .before .before .before .before .before .before .before .before .args .records .now in let fnd = found (c .before .before .before .before .before .before .before .before .before .args .search .now) rs in told w _ refl (spread-same (c .before .before .first-occupied .result) (c .before .first-occupied2 .result) (c .between .result) (c .between .ensures) (c .before .before .first-occupied .ensures rs fnd (standing-bids (whole-desk w))) (c .before .first-occupied2 .ensures rs fnd (standing-asks (whole-desk w))))
+returns-2 c = let w = c .before .before .before .before .is-whole .ensures .yea (not-false _ (c .before .before .before .if1 .left)) in let rs = c .before .before .before .before .before .before .before .before .before .args .records .now in let fnd = found (c .before .before .before .before .before .before .before .before .before .args .search .now) rs in told w (ap value (spread-same (c .before .before .first-occupied .result) (c .before .first-occupied2 .result) (c .between .result) (c .between .ensures) (c .before .before .first-occupied .ensures rs fnd (standing-bids (whole-desk w))) (c .before .first-occupied2 .ensures rs fnd (standing-asks (whole-desk w)))))
 
 pub spread-spec : {M : Type 1} → statement M
 spread-spec =

@@ -1,21 +1,22 @@
 -- `depth::first_occupied` meets its contract: the rows left to look at give what all of them give. Assumes nothing.
 use native.Mathlib.Omega.{arith}
 use Rattle.depth.proofs.Prices.{Walked, walk-absent, walk-again, walk-present, walk-start}
+use Rattle.models.specs.Readings.{sideOf}
 use borrow.Author.Needs.{needs}
 use Rattle.depth.proofs.first_occupied.Statement.{statement}
 use Rattle.depth.proofs.first_occupied.Tie as tie
 
 abbrev Inv-loop : tie.InvT-loop
-Inv-loop levels n ask left₀ left = Walked ask levels n left
+Inv-loop levels n side left₀ left = Walked (sideOf side) levels n left
 
 abbrev μ-loop : tie.MeasureT-loop
-μ-loop levels n ask left₀ left = left
+μ-loop levels n side left₀ left = left
 
 loop-holds : tie.Need-loop-holds Inv-loop μ-loop
-loop-holds c = walk-start (c .before .args .ask) (c .before .args .levels .now) (c .before .args .n)
+loop-holds c = walk-start (sideOf (c .before .args .side)) (c .before .args .levels .now) (c .before .args .n)
 
-turn-requires : tie.Need-turn-requires Inv-loop μ-loop
-turn-requires c κs = search needs
+visit-requires : tie.Need-visit-requires Inv-loop μ-loop
+visit-requires c κs = search needs
 
 mul-at : tie.Need-mul-at Inv-loop μ-loop
 mul-at c = search needs
@@ -36,7 +37,7 @@ shared-slice-read-t13 : tie.Need-shared-slice-read-t13 Inv-loop μ-loop
 shared-slice-read-t13 c = search needs
 
 returns : tie.Need-returns Inv-loop μ-loop
-returns c = walk-present (c .before .before .before .before .before .loop .inv) (c .before .before .before .before .loop-test .taken) (c .before .before .before .turn .ensures .0) (c .before .if1 .taken)
+returns c = walk-present (c .before .before .before .before .before .loop .inv) (c .before .before .before .before .loop-test .taken) (c .before .before .before .visit .ensures .0) (c .before .if1 .taken)
 
 sub-left : tie.Need-sub-left Inv-loop μ-loop
 sub-left c = search needs
@@ -45,7 +46,7 @@ loop-less : tie.Need-loop-less Inv-loop μ-loop
 loop-less c = search needs
 
 loop-again : tie.Need-loop-again Inv-loop μ-loop
-loop-again c = walk-again (c .before .before .before .before .loop .inv) (c .before .before .before .loop-test .taken) (c .before .before .turn .ensures .0) (c .if1 .left)
+loop-again c = walk-again (c .before .before .before .before .loop .inv) (c .before .before .before .loop-test .taken) (c .before .before .visit .ensures .0) (c .if1 .left)
 
 returns-2 : tie.Need-returns-2 Inv-loop μ-loop
 returns-2 c = walk-absent (c .before .loop .inv) (omega arith)
@@ -57,7 +58,7 @@ first-occupied-spec =
     Inv-loop
     μ-loop
     loop-holds
-    turn-requires
+    visit-requires
     mul-at
     add-if1
     mul-if1

@@ -17,7 +17,7 @@ shared-slice-read-result : tie.Need-shared-slice-read-result
 shared-slice-read-result c = search needs
 
 returns : tie.Need-returns
-returns c = λ rs sd fnd s. new-within s sd fnd (c .before .before .before .before .args .price .0) (c .before .before .find-row .ensures) (c .before .if1 .taken)
+returns c = λ rs sd fnd s. new-within s sd fnd (c .before .before .before .before .before .args .price .0) (c .before .before .before .find-row .ensures) (c .before .before .if1 .taken)
 
 returns-2 : tie.Need-returns-2
 returns-2 c = λ rs sd fnd s. new-past s sd fnd (c .before .before .before .args .price .0) (c .before .find-row .ensures) (c .if1 .left)

@@ -18,7 +18,7 @@ rests-requires c κs = search needs
 
 -- src/lib.rt:170:9
 is-crowded-requires : tie.Need-is-crowded-requires
-is-crowded-requires c κs = (rising (standing-bids (c .before .before .before .before .before .before .before .before .before .before .before .before .pre .desk)), rising (standing-asks (c .before .before .before .before .before .before .before .before .before .before .before .before .pre .desk)))
+is-crowded-requires c κs = (rising (standing-bids (c .before .before .before .before .before .before .before .before .before .before .before .before .pre .tidy)), rising (standing-asks (c .before .before .before .before .before .before .before .before .before .before .before .before .pre .tidy)))
 
 -- src/lib.rt:172:26
 fill-places-requires : tie.Need-fill-places-requires

@@ -1,48 +1,46 @@
-use Rattle.desk.proofs.Ordering.{room-on}
-use Rattle.desk.proofs.Ordering.{settle-idle, settle-rests}
 use borrow.Author.Tests.{not-true, not-false}
+use Rattle.ledger.specs.Stock.{stock}
+use Rattle.desk.proofs.Ordering.{settle-idle, settle-rests}
 use borrow.Author.Needs.{needs}
 use Rattle.desk.proofs.settle.Statement.{statement}
 use Rattle.desk.proofs.settle.Tie as tie
+use Rattle.desk.proofs.settle.Reads as reads
+use Rattle.desk.proofs.settle.Lts as lts
+use Rattle.ledger.proofs.rest.Reads as rest-reads
 
--- src/lib.rt:110:9
+-- src/lib.rt:100:9
 returns : tie.Need-returns
-returns c = settle-idle (c .before .before .before .before .before .args .rests) (c .before .before .before .before .before .args .t) (c .before .before .before .before .before .args .left .0) (c .before .before .before .before .before .args .book) (c .before .before .before .before .before .args .records .now) (c .before .before .before .before .before .args .bids .now) (c .before .before .before .before .before .args .asks .now) (c .before .before .before .before .before .args .search .now) (not-true _ (c .if1 .taken)) (c .before .before .before .before .before .pre .desk)
+returns c = settle-idle (c .before .before .before .before .before .args .rests) (c .before .before .before .before .before .args .t) (c .before .before .before .before .before .args .left .0) _ (not-true _ (c .if1 .taken)) (c .before .before .before .before .before .pre .tidy)
 
--- src/lib.rt:113:9
-is-ask-requires : tie.Need-is-ask-requires
-is-ask-requires c κs = search needs
-
--- src/lib.rt:114:5
+-- src/lib.rt:105:5
 rest-requires : tie.Need-rest-requires
-rest-requires c κs = (c .before .before .before .before .before .before .before .before .before .before .pre .desk, c .before .before .before .before .before .before .before .before .before .before .pre .place (not-false _ (c .before .before .before .before .before .if1 .left)), room-on (c .before .before .before .before .before .before .before .before .before .before .args .t) (c .before .before .before .before .before .before .before .before .before .before .args .book) (c .before .before .before .before .before .before .before .before .before .before .args .bids .now) (c .before .before .before .before .before .before .before .before .before .before .args .asks .now) (c .before .before .before .before .is-ask .ensures) (c .before .before .before .before .before .before .before .before .before .before .pre .row (not-false _ (c .before .before .before .before .before .if1 .left))))
+rest-requires c κs = (c .before .before .before .before .before .before .before .before .before .before .before .pre .tidy, c .before .before .before .before .before .before .before .before .before .before .before .pre .place (not-false _ (c .before .before .before .before .before .before .if1 .left)), c .before .before .before .before .before .before .before .before .before .before .before .pre .row (not-false _ (c .before .before .before .before .before .before .if1 .left)))
 
--- src/lib.rt:95:1
+-- src/lib.rt:85:1
 same-length : tie.Need-same-length
-same-length c = c .before .before .before .before .before .before .before .before .rest .kept .0
+same-length c = search needs
 
--- src/lib.rt:95:1
+-- src/lib.rt:85:1
 same-length-2 : tie.Need-same-length-2
-same-length-2 c = c .before .before .before .before .before .before .before .before .rest .kept .1 .0
+same-length-2 c = search needs
 
--- src/lib.rt:95:1
+-- src/lib.rt:85:1
 same-length-3 : tie.Need-same-length-3
-same-length-3 c = c .before .before .before .before .before .before .before .before .rest .kept .1 .1 .0
+same-length-3 c = search needs
 
--- src/lib.rt:95:1
+-- src/lib.rt:85:1
 same-length-4 : tie.Need-same-length-4
-same-length-4 c = c .before .before .before .before .before .before .before .before .rest .kept .1 .1 .1 .0
+same-length-4 c = search needs
 
--- src/lib.rt:95:1
+-- src/lib.rt:85:1
 returns-2 : tie.Need-returns-2
-returns-2 c = settle-rests (c .before .before .before .before .before .before .before .before .before .before .before .before .before .before .before .before .before .before .before .args .rests) (c .before .before .before .before .before .before .before .before .before .before .before .before .before .before .before .before .before .before .before .args .t) (c .before .before .before .before .before .before .before .before .before .before .before .before .before .before .before .before .before .before .before .args .left .0) (c .before .before .before .before .before .before .before .before .before .before .before .before .before .before .before .before .before .before .before .args .book) (c .before .before .before .before .before .before .before .before .before .before .before .before .before .before .before .before .before .before .before .args .records .now) (c .before .before .before .before .before .before .before .before .before .before .before .before .before .before .before .before .before .before .before .args .bids .now) (c .before .before .before .before .before .before .before .before .before .before .before .before .before .before .before .before .before .before .before .args .asks .now) (c .before .before .before .before .before .before .before .before .before .before .before .before .before .before .before .before .before .before .before .args .search .now) (not-false _ (c .before .before .before .before .before .before .before .before .before .before .before .before .before .before .if1 .left)) (c .before .before .before .before .before .before .before .before .before .before .before .before .before .is-ask .ensures) (c .before .before .before .before .before .before .before .before .rest .ensures)
+returns-2 c = settle-rests (c .before .before .before .before .before .before .before .before .before .before .before .before .before .before .before .before .before .before .before .before .args .rests) (c .before .before .before .before .before .before .before .before .before .before .before .before .before .before .before .before .before .before .before .before .args .t) (c .before .before .before .before .before .before .before .before .before .before .before .before .before .before .before .before .before .before .before .before .args .left .0) (stock (c .before .before .before .before .before .before .before .before .before .before .before .before .before .before .before .before .before .before .before .before .args .book) (c .before .before .before .before .before .before .before .before .before .before .before .before .before .before .before .before .before .before .before .before .args .records .now) (c .before .before .before .before .before .before .before .before .before .before .before .before .before .before .before .before .before .before .before .before .args .bids .now) (c .before .before .before .before .before .before .before .before .before .before .before .before .before .before .before .before .before .before .before .before .args .asks .now) (c .before .before .before .before .before .before .before .before .before .before .before .before .before .before .before .before .before .before .before .before .args .search .now)) (not-false _ (c .before .before .before .before .before .before .before .before .before .before .before .before .before .before .before .if1 .left)) (c .before .before .before .before .before .before .before .before .rest .ensures)
 
 pub settle-spec : {M : Type 1} → statement M
 settle-spec =
     tie.close
     (tie.spec
     returns
-    is-ask-requires
     rest-requires
     same-length
     same-length-2

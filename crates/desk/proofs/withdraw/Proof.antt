@@ -24,7 +24,7 @@ same-length-4 c = c .before .before .before .before .before .before .before .bef
 
 -- src/lib.rt:59:1
 returns : tie.Need-returns
-returns c = withdrawn _ _ _ _ _ _ _ _ _ _ _ (c .before .before .before .before .before .before .before .before .cancel .kept .0) (c .before .before .before .before .before .before .before .before .cancel .kept .1 .0) (c .before .before .before .before .before .before .before .before .cancel .kept .1 .1 .0) (c .before .before .before .before .before .before .before .before .cancel .kept .1 .1 .1 .0) (c .before .before .before .before .before .before .before .before .cancel .ensures)
+returns c = withdrawn (c .before .before .before .before .before .before .before .before .before .before .before .before .before .before .before .before .before .args .id) _ _ (c .before .before .before .before .before .before .before .before .cancel .kept .0) (c .before .before .before .before .before .before .before .before .cancel .kept .1 .0) (c .before .before .before .before .before .before .before .before .cancel .kept .1 .1 .0) (c .before .before .before .before .before .before .before .before .cancel .kept .1 .1 .1 .0) (c .before .before .before .before .before .before .before .before .cancel .ensures)
 
 pub withdraw-spec : {M : Type 1} → statement M
 withdraw-spec =

@@ -1,5 +1,6 @@
 -- `ledger::cancel` meets its contract. Assumes nothing.
 use mathlib.Core.Path.{sym, _∙_}
+use Rattle.models.specs.Readings.{sideOf}
 use borrow.Author.Needs.{needs}
 use Rattle.ledger.proofs.Cancelling.{cancel-done, cancel-none, found-rests, found-row, on-told}
 use Rattle.ledger.proofs.cancel.Statement.{statement}
@@ -15,13 +16,13 @@ same-length-2 : tie.Need-same-length-2
 same-length-2 c = search needs
 
 returns : tie.Need-returns
-returns c = cancel-none (c .before .before .before .before .before .before .before .before .pre .0) (c .before .before .before .before .before .before .before .before .args .id) (sym (c .before .find .ensures .1) ∙ c .if1 .taken)
+returns c = cancel-none (c .before .before .before .before .before .before .before .before .pre .0) (c .before .before .before .before .before .before .before .before .args .id .0) (sym (c .before .find .ensures .1) ∙ c .if1 .taken)
 
-on-asks-requires : tie.Need-on-asks-requires
-on-asks-requires c κs = (found-row (c .before .before .before .before .before .before .before .before .before .before .pre .0) (c .before .before .before .before .before .before .before .before .before .before .args .id) (c .before .before .before .find .ensures .1) (c .before .before .if1 .left), c .before .before .before .before .before .before .before .before .before .before .pre .0 .stored .mine .room)
+side-at-requires : tie.Need-side-at-requires
+side-at-requires c κs = (found-row (c .before .before .before .before .before .before .before .before .before .before .pre .0) (c .before .before .before .before .before .before .before .before .before .before .args .id .0) (c .before .before .before .find .ensures .1) (c .before .before .if1 .left), c .before .before .before .before .before .before .before .before .before .before .pre .0 .stored .mine .room)
 
 discard-requires : tie.Need-discard-requires
-discard-requires c κs = (c .before .before .before .before .before .before .before .before .before .before .before .before .before .before .before .pre .0, on-told (c .before .before .before .before .before .before .before .before .before .before .before .before .before .before .before .pre .0) (c .before .before .before .before .on-asks .result) (c .before .before .before .before .before .before .before .before .find .result .entry) (c .before .before .before .before .before .before .before .before .before .before .before .before .before .before .before .pre .1) (found-rests (c .before .before .before .before .before .before .before .before .before .before .before .before .before .before .before .pre .0) (c .before .before .before .before .before .before .before .before .before .before .before .before .before .before .before .args .id) (c .before .before .before .before .before .before .before .before .find .ensures .1) (c .before .before .before .before .before .before .before .if1 .left)) (c .before .before .before .before .on-asks .ensures))
+discard-requires c κs = (c .before .before .before .before .before .before .before .before .before .before .before .before .before .before .before .pre .0, on-told (c .before .before .before .before .before .before .before .before .before .before .before .before .before .before .before .pre .0) (sideOf (c .before .before .before .before .side-at .result)) (c .before .before .before .before .before .before .before .before .find .result .entry) (c .before .before .before .before .before .before .before .before .before .before .before .before .before .before .before .pre .1) (found-rests (c .before .before .before .before .before .before .before .before .before .before .before .before .before .before .before .pre .0) (c .before .before .before .before .before .before .before .before .before .before .before .before .before .before .before .args .id .0) (c .before .before .before .before .before .before .before .before .find .ensures .1) (c .before .before .before .before .before .before .before .if1 .left)) (c .before .before .before .before .side-at .ensures))
 
 same-length-3 : tie.Need-same-length-3
 same-length-3 c = search needs
@@ -36,7 +37,7 @@ same-length-6 : tie.Need-same-length-6
 same-length-6 c = search needs
 
 returns-2 : tie.Need-returns-2
-returns-2 c = cancel-done (c .before .before .before .before .before .before .before .before .before .before .before .before .before .before .before .before .before .before .before .before .before .before .before .before .pre .0) (c .before .before .before .before .before .before .before .before .before .before .before .before .before .before .before .before .before .before .before .before .before .before .before .before .args .id) (c .before .before .before .before .before .before .before .before .before .before .before .before .before .before .before .before .before .find .ensures .1) (c .before .before .before .before .before .before .before .before .before .before .before .before .before .before .before .before .if1 .left) (c .before .before .before .before .before .before .before .before .before .before .before .before .before .on-asks .result) (on-told (c .before .before .before .before .before .before .before .before .before .before .before .before .before .before .before .before .before .before .before .before .before .before .before .before .pre .0) (c .before .before .before .before .before .before .before .before .before .before .before .before .before .on-asks .result) (c .before .before .before .before .before .before .before .before .before .before .before .before .before .before .before .before .before .find .result .entry) (c .before .before .before .before .before .before .before .before .before .before .before .before .before .before .before .before .before .before .before .before .before .before .before .before .pre .1) (found-rests (c .before .before .before .before .before .before .before .before .before .before .before .before .before .before .before .before .before .before .before .before .before .before .before .before .pre .0) (c .before .before .before .before .before .before .before .before .before .before .before .before .before .before .before .before .before .before .before .before .before .before .before .before .args .id) (c .before .before .before .before .before .before .before .before .before .before .before .before .before .before .before .before .before .find .ensures .1) (c .before .before .before .before .before .before .before .before .before .before .before .before .before .before .before .before .if1 .left)) (c .before .before .before .before .before .before .before .before .before .before .before .before .before .on-asks .ensures)) (c .before .before .before .before .before .before .before .before .discard .ensures)
+returns-2 c = cancel-done (c .before .before .before .before .before .before .before .before .before .before .before .before .before .before .before .before .before .before .before .before .before .before .before .before .pre .0) (c .before .before .before .before .before .before .before .before .before .before .before .before .before .before .before .before .before .before .before .before .before .before .before .before .args .id .0) (c .before .before .before .before .before .before .before .before .before .before .before .before .before .before .before .before .before .find .ensures .1) (c .before .before .before .before .before .before .before .before .before .before .before .before .before .before .before .before .if1 .left) (sideOf (c .before .before .before .before .before .before .before .before .before .before .before .before .before .side-at .result)) (on-told (c .before .before .before .before .before .before .before .before .before .before .before .before .before .before .before .before .before .before .before .before .before .before .before .before .pre .0) (sideOf (c .before .before .before .before .before .before .before .before .before .before .before .before .before .side-at .result)) (c .before .before .before .before .before .before .before .before .before .before .before .before .before .before .before .before .before .find .result .entry) (c .before .before .before .before .before .before .before .before .before .before .before .before .before .before .before .before .before .before .before .before .before .before .before .before .pre .1) (found-rests (c .before .before .before .before .before .before .before .before .before .before .before .before .before .before .before .before .before .before .before .before .before .before .before .before .pre .0) (c .before .before .before .before .before .before .before .before .before .before .before .before .before .before .before .before .before .before .before .before .before .before .before .before .args .id .0) (c .before .before .before .before .before .before .before .before .before .before .before .before .before .before .before .before .before .find .ensures .1) (c .before .before .before .before .before .before .before .before .before .before .before .before .before .before .before .before .if1 .left)) (c .before .before .before .before .before .before .before .before .before .before .before .before .before .side-at .ensures)) (c .before .before .before .before .before .before .before .before .discard .ensures)
 
 pub cancel-spec : {M : Type 1} → statement M
 cancel-spec =
@@ -46,7 +47,7 @@ cancel-spec =
     same-length
     same-length-2
     returns
-    on-asks-requires
+    side-at-requires
     discard-requires
     same-length-3
     same-length-4

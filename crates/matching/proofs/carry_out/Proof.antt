@@ -1,106 +1,135 @@
--- `carry_out` does what the rules say. Each turn of its two loops, and each way out, is a law of Passing. Assumes nothing.
-use Prim.Native.Nat.{_-_}
+use Prim.Native.Nat.{_-_, _≤_}
 use mathlib.Core.Logic.{⊎-elim}
 use mathlib.Core.Path.{sym, _∙_}
 use native.Mathlib.Omega.{arith}
 use borrow.Author.Tests.{not-false, not-true}
 use Rattle.survey.proofs.Walk.{ahead}
 use Rattle.matching.proofs.Carrying.{carries}
-use Rattle.matching.proofs.Passing.{Done, Inside, Outside, begun, done-as, prices-beyond, prices-full, prices-next, prices-none, prices-start, queue-less, queue-next, queue-place, queue-row, queue-start}
+use Rattle.matching.proofs.Passing.{Done, Inside, Outside, begun, done-as, prices-beyond, prices-full, prices-idle, prices-next, prices-none, prices-start, queue-less, queue-next, queue-place, queue-row, queue-start}
 use borrow.Author.Needs.{needs}
 use Rattle.matching.proofs.carry_out.Statement.{statement}
 use Rattle.matching.proofs.carry_out.Tie as tie
 use Rattle.matching.proofs.carry_out.Reads as reads
 use Rattle.matching.proofs.carry_out.Lts as lts
 use Rattle.matching.proofs.give.Reads as give-reads
+use Rattle.models.proofs.Side.opposite.Reads as opposite-reads
 use Rattle.records.proofs.load.Reads as load-reads
+use Rattle.side.proofs.visit.Reads as visit-reads
 use Rattle.survey.proofs.reaches.Reads as reaches-reads
-use Rattle.survey.proofs.visit.Reads as visit-reads
 
 abbrev Inv-loop : tie.InvT-loop
-Inv-loop records₀ levels n t fills₀ p₀ k at c₀ records fills p c = Inside levels n t records₀ fills₀ p₀ k records fills p c
+Inv-loop records₀ levels n t fills₀ p₀ makers k at c₀ records fills p c = Inside levels n t records₀ fills₀ p₀ k records fills p c × (1 ≤ p .left .0)
 
 abbrev μ-loop : tie.MeasureT-loop
-μ-loop records₀ levels n t fills₀ p₀ k at c₀ records fills p c = p .left .0
+μ-loop records₀ levels n t fills₀ p₀ makers k at c₀ records fills p c = p .left .0
 
 abbrev Inv-prices : tie.InvT-prices
-Inv-prices records₀ levels n t fills₀ p₀ k₀ records fills p k = Outside levels n t records₀ fills₀ p₀ records fills p k
+Inv-prices records₀ levels n t fills₀ p₀ makers k₀ records fills p k = Outside levels n t records₀ fills₀ p₀ records fills p k × (1 ≤ p .left .0)
 
 abbrev μ-prices : tie.MeasureT-prices
-μ-prices records₀ levels n t fills₀ p₀ k₀ records fills p k = k
+μ-prices records₀ levels n t fills₀ p₀ makers k₀ records fills p k = k
 
+-- src/lib.rt:95:9
+opposite-requires : tie.Need-opposite-requires Inv-loop μ-loop Inv-prices μ-prices
+opposite-requires c κs = search needs
+
+-- src/lib.rt:99:9
+returns : tie.Need-returns Inv-loop μ-loop Inv-prices μ-prices
+returns c = carries (c .before .before .before .before .before .before .before .pre) (prices-idle _ _ (c .before .before .before .before .before .before .before .args .t) (prices-start _ _ (c .before .before .before .before .before .before .before .args .t) (c .before .before .before .before .before .before .before .pre)) (c .before .if1 .taken))
+
+-- src/lib.rt:101:5
 prices-holds : tie.Need-prices-holds Inv-loop μ-loop Inv-prices μ-prices
-prices-holds c = prices-start _ _ _ (c .before .before .before .pre)
+prices-holds c = (prices-start _ _ _ (c .before .before .before .before .before .before .pre), omega (arith, c .if1 .left))
 
+-- src/lib.rt:102:18
 visit-requires : tie.Need-visit-requires Inv-loop μ-loop Inv-prices μ-prices
 visit-requires c κs = search needs
 
+-- src/lib.rt:102:18
 mul-at : tie.Need-mul-at Inv-loop μ-loop Inv-prices μ-prices
 mul-at c = search needs
 
-mul-reaches : tie.Need-mul-reaches Inv-loop μ-loop Inv-prices μ-prices
-mul-reaches c = search needs
-
-shared-slice-read-reaches : tie.Need-shared-slice-read-reaches Inv-loop μ-loop Inv-prices μ-prices
-shared-slice-read-reaches c = search needs
-
-reaches-requires : tie.Need-reaches-requires Inv-loop μ-loop Inv-prices μ-prices
-reaches-requires c κs = search needs
-
-add-c : tie.Need-add-c Inv-loop μ-loop Inv-prices μ-prices
-add-c c = search needs
-
+-- src/lib.rt:103:30
 mul-c : tie.Need-mul-c Inv-loop μ-loop Inv-prices μ-prices
 mul-c c = search needs
 
+-- src/lib.rt:103:30
 shared-slice-read-c : tie.Need-shared-slice-read-c Inv-loop μ-loop Inv-prices μ-prices
 shared-slice-read-c c = search needs
 
+-- src/lib.rt:103:13
+reaches-requires : tie.Need-reaches-requires Inv-loop μ-loop Inv-prices μ-prices
+reaches-requires c κs = search needs
+
+-- src/lib.rt:106:28
+add-c : tie.Need-add-c Inv-loop μ-loop Inv-prices μ-prices
+add-c c = search needs
+
+-- src/lib.rt:106:21
+mul-c-2 : tie.Need-mul-c-2 Inv-loop μ-loop Inv-prices μ-prices
+mul-c-2 c = search needs
+
+-- src/lib.rt:106:21
+shared-slice-read-c-2 : tie.Need-shared-slice-read-c-2 Inv-loop μ-loop Inv-prices μ-prices
+shared-slice-read-c-2 c = search needs
+
+-- src/lib.rt:107:9
 loop-holds : tie.Need-loop-holds Inv-loop μ-loop Inv-prices μ-prices
-loop-holds c = queue-start _ _ _ (c .before .before .before .before .before .before .prices .inv) (c .before .before .before .before .before .prices-test .taken) (c .before .before .before .before .visit .ensures .0) (c .before .before .before .before .visit .ensures .1) (sym (c .before .before .reaches .ensures) ∙ not-false _ (c .before .if1 .left))
+loop-holds c = (queue-start _ _ _ (c .before .before .before .before .before .before .prices .inv .0) (c .before .before .before .before .before .prices-test .taken) (rw (c .before .before .before .before .before .before .before .before .before .opposite .ensures) at (c .before .before .before .before .visit .ensures .0)) (c .before .before .before .before .visit .ensures .1) (sym (c .before .before .reaches .ensures) ∙ not-false _ (c .before .if2 .left)), c .before .before .before .before .before .before .prices .inv .1)
 
+-- src/lib.rt:108:17
 load-requires : tie.Need-load-requires Inv-loop μ-loop Inv-prices μ-prices
-load-requires c κs = (omega arith, queue-row _ _ _ (c .before .before .before .before .loop .inv) (omega arith))
+load-requires c κs = (omega arith, queue-row _ _ _ (c .before .before .loop .inv .0) (omega arith))
 
+-- src/lib.rt:109:13
 give-requires : tie.Need-give-requires Inv-loop μ-loop Inv-prices μ-prices
-give-requires c κs = (queue-row _ _ _ (c .before .before .before .before .before .before .before .loop .inv) (omega arith), queue-place _ _ _ (c .before .before .before .before .before .before .before .loop .inv) (omega arith) (omega arith))
+give-requires c κs = (queue-row _ _ _ (c .before .before .before .before .before .loop .inv .0) (omega arith), queue-place _ _ _ (c .before .before .before .before .before .loop .inv .0) (omega arith) (c .before .before .before .before .before .loop .inv .1))
 
+-- src/lib.rt:107:9
 loop-less : tie.Need-loop-less Inv-loop μ-loop Inv-prices μ-prices
-loop-less c = queue-less _ _ _ (c .before .before .before .before .before .before .before .before .before .before .before .before .loop .inv) (omega arith) (omega arith) (c .before .before .before .before .give .ensures .progress)
+loop-less c = queue-less _ _ _ (c .before .before .before .before .before .before .before .before .before .before .before .before .loop .inv .0) (omega arith) (c .before .before .before .before .before .before .before .before .before .before .before .before .loop .inv .1) (c .before .before .before .before .before .before .give .ensures .progress)
 
+-- src/lib.rt:107:9
 loop-again : tie.Need-loop-again Inv-loop μ-loop Inv-prices μ-prices
-loop-again c = queue-next _ _ _ (c .before .before .before .before .before .before .before .before .before .before .before .before .loop .inv) (omega arith) (omega arith) (c .before .before .before .before .give .ensures) (c .before .before .before .before .before .before .before .load .ensures)
+loop-again c = (queue-next _ _ _ (c .before .before .before .before .before .before .before .before .before .before .before .before .loop .inv .0) (omega arith) (c .before .before .before .before .before .before .before .before .before .before .before .before .loop .inv .1) (c .before .before .before .before .before .before .give .ensures) (c .before .before .before .before .before .before .before .before .before .load .ensures), omega (arith, c .if3 .left))
 
+-- src/lib.rt:115:9
 sub-k : tie.Need-sub-k Inv-loop μ-loop Inv-prices μ-prices
 sub-k c = search needs
 
+-- src/lib.rt:101:5
 prices-less : tie.Need-prices-less Inv-loop μ-loop Inv-prices μ-prices
 prices-less c = search needs
 
+-- src/lib.rt:101:5
 prices-again : tie.Need-prices-again Inv-loop μ-loop Inv-prices μ-prices
-prices-again c = prices-next _ _ _ (c .before .before .before .before .before .before .before .before .prices .inv) (omega arith) (c .before .loop .inv)
+prices-again c = (prices-next _ _ _ (c .before .before .before .before .before .before .before .before .prices .inv .0) (omega arith) (c .before .loop .inv .0), c .before .loop .inv .1)
 
 -- the walk is over, by whichever way it was left
-over : (c : lts.Left-prices (visit-reads.Asked, visit-reads.Learnt, reaches-reads.Asked, reaches-reads.Learnt, load-reads.Asked, load-reads.Learnt, give-reads.Asked, give-reads.Learnt) reads.Pre reads.Post Inv-loop μ-loop Inv-prices μ-prices)
-    → let a = c .before .before .before .before .before .args in
+over : (c : lts.Left-prices (opposite-reads.Asked, opposite-reads.Learnt, visit-reads.Asked, visit-reads.Learnt, reaches-reads.Asked, reaches-reads.Learnt, load-reads.Asked, load-reads.Learnt, give-reads.Asked, give-reads.Learnt) reads.Pre reads.Post Inv-loop μ-loop Inv-prices μ-prices)
+    → let a = c .before .before .before .before .before .before .before .before .args in
     Done (a .levels .now) (a .n) (a .t) (a .records .now) (a .fills .now) (begun (a .levels .now) (a .n) (a .t)) (ahead (a .records .now) (a .levels .now) (a .n) (a .t) (a .n))
     (c .prices-test .records) (c .prices-test .fills) (c .prices-test .p)
 over c =
+    let o = c .before .prices .inv .0 in
     ⊎-elim
-    (λ w. done-as _ _ _ (w .1) (w .2) (w .3) (prices-none _ _ _ (c .before .prices .inv) (omega (arith, w .0 .left))))
+    (λ w. done-as _ _ _ (w .1) (w .2) (w .3) (prices-none _ _ _ o (omega (arith, w .0 .left))))
     (⊎-elim
-    (λ w. done-as _ _ _ (w .5) (w .6) (w .7) (prices-beyond _ _ _ (c .before .prices .inv) (w .0 .taken) (w .1 .ensures .0) (w .1 .ensures .1) (sym (w .3 .ensures) ∙ not-true _ (w .4 .taken))))
-    (λ w. done-as _ _ _ (w .10) (w .11) (w .12) (prices-full _ _ _ (c .before .prices .inv) (omega (arith, w .9 .taken)) (w .6 .inv))))
+    (λ w. done-as _ _ _ (w .5) (w .6) (w .7) (prices-beyond _ _ _ o (w .0 .taken) (rw (c .before .before .before .before .opposite .ensures) at (w .1 .ensures .0)) (w .1 .ensures .1) (sym (w .3 .ensures) ∙ not-true _ (w .4 .taken))))
+    (λ w. done-as _ _ _ (w .19) (w .20) (w .21) (prices-full _ _ _ o (w .18 .taken) (queue-next _ _ _ (w .6 .inv .0) (omega (arith, w .7 .taken)) (w .6 .inv .1) (w .12 .ensures) (w .9 .ensures)))))
     (c .prices-test .came)
 
+-- src/lib.rt:82:1
 same-length : tie.Need-same-length Inv-loop μ-loop Inv-prices μ-prices
 same-length c = over (c .before) .long
 
+-- src/lib.rt:82:1
 same-length-2 : tie.Need-same-length-2 Inv-loop μ-loop Inv-prices μ-prices
 same-length-2 c = over (c .before) .wide
 
-returns : tie.Need-returns Inv-loop μ-loop Inv-prices μ-prices
-returns c = carries (c .before .before .before .before .before .before .pre) (over (c .before))
+-- src/lib.rt:82:1
+returns-2 : tie.Need-returns-2 Inv-loop μ-loop Inv-prices μ-prices
+returns-2 c = carries (c .before .before .before .before .before .before .before .before .before .pre) (over (c .before))
 
 pub carry-out-spec : {M : Type 1} → statement M
 carry-out-spec =
@@ -110,15 +139,17 @@ carry-out-spec =
     μ-loop
     Inv-prices
     μ-prices
+    opposite-requires
+    returns
     prices-holds
     visit-requires
     mul-at
-    mul-reaches
-    shared-slice-read-reaches
-    reaches-requires
-    add-c
     mul-c
     shared-slice-read-c
+    reaches-requires
+    add-c
+    mul-c-2
+    shared-slice-read-c-2
     loop-holds
     load-requires
     give-requires
@@ -129,4 +160,4 @@ carry-out-spec =
     prices-again
     same-length
     same-length-2
-    returns)
+    returns-2)

@@ -2,20 +2,23 @@
 use Prim.Native.Nat.{_-_}
 use mathlib.Core.Path.{_≡_}
 use native.Mathlib.Omega.{arith}
-use borrow.Author.Needs.{needs}
 use Rattle.side.specs.Prices.{Bracket}
 use Rattle.side.proofs.Shift.{bracket-start}
+use borrow.Author.Needs.{needs}
 use Rattle.side.proofs.find_row.Statement.{statement}
 use Rattle.side.proofs.find_row.Tie as tie
+use Rattle.side.proofs.find_row.Reads as reads
+use Rattle.side.proofs.find_row.Lts as lts
+use Rattle.side.proofs.halve.Reads as halve-reads
 
 abbrev Inv-loop : tie.InvT-loop
-Inv-loop levels n price s₀ s = Bracket levels n price (s .lo) (s .hi)
+Inv-loop levels n price s₀ s = Bracket levels n (price .0) (s .lo) (s .hi)
 
 abbrev μ-loop : tie.MeasureT-loop
 μ-loop levels n price s₀ s = s .hi - s .lo
 
 loop-holds : tie.Need-loop-holds Inv-loop μ-loop
-loop-holds c = bracket-start (c .before .args .levels .now) (c .before .args .n) (c .before .args .price)
+loop-holds c = bracket-start (c .before .args .levels .now) (c .before .args .n) (c .before .args .price .0)
 
 halve-requires : tie.Need-halve-requires Inv-loop μ-loop
 halve-requires c κs = (c .before .before .before .before .pre, c .before .before .loop .inv, search needs)

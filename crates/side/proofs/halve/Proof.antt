@@ -1,9 +1,11 @@
 -- `side::halve` meets its contract. Assumes nothing.
 use native.Mathlib.Omega.{arith}
-use borrow.Author.Needs.{needs}
 use Rattle.side.proofs.Shift.{bracket-down, bracket-up}
+use borrow.Author.Needs.{needs}
 use Rattle.side.proofs.halve.Statement.{statement}
 use Rattle.side.proofs.halve.Tie as tie
+use Rattle.side.proofs.halve.Reads as reads
+use Rattle.side.proofs.halve.Lts as lts
 
 sub-m : tie.Need-sub-m
 sub-m c = search needs
@@ -24,10 +26,10 @@ add-t13 : tie.Need-add-t13
 add-t13 c = search needs
 
 returns : tie.Need-returns
-returns c = let a = c .before .before .args in let p = c .before .before .pre in (bracket-up (a .levels .now) (a .n) (a .price) (a .lo) (a .hi) _ (p .0) (p .1) (omega arith) (omega arith) (c .if1 .taken), omega arith)
+returns c = let a = c .before .before .before .args in let p = c .before .before .before .pre in (bracket-up (a .levels .now) (a .n) (a .price .0) (a .lo) (a .hi) _ (p .0) (p .1) (omega arith) (omega arith) (c .if1 .taken), omega arith)
 
 returns-2 : tie.Need-returns-2
-returns-2 c = let a = c .before .before .args in let p = c .before .before .pre in (bracket-down (a .levels .now) (a .n) (a .price) (a .lo) (a .hi) _ (p .0) (p .1) (omega arith) (omega arith) (omega arith), omega arith)
+returns-2 c = let a = c .before .before .before .args in let p = c .before .before .before .pre in (bracket-down (a .levels .now) (a .n) (a .price .0) (a .lo) (a .hi) _ (p .0) (p .1) (omega arith) (omega arith) (omega arith), omega arith)
 
 pub halve-spec : {M : Type 1} → statement M
 halve-spec =

@@ -4,10 +4,12 @@ use mathlib.Core.Path.{refl, _≡_}
 use native.Mathlib.Omega.{arith}
 use lib.ListN.{length, set}
 use lib.Seq.{lt-length-set}
-use borrow.Author.Needs.{needs}
 use Rattle.side.proofs.Shift.{Moved, moved-start, moved-step, opened}
+use borrow.Author.Needs.{needs}
 use Rattle.side.proofs.open_row.Statement.{statement}
 use Rattle.side.proofs.open_row.Tie as tie
+use Rattle.side.proofs.open_row.Reads as reads
+use Rattle.side.proofs.open_row.Lts as lts
 
 abbrev Inv-loop : tie.InvT-loop
 Inv-loop levels₀ n k price from j₀ levels j = (from ≤ j) × (j ≤ n * 3) × (length levels ≡ length levels₀) × Moved levels₀ (n * 3) j levels
@@ -61,7 +63,7 @@ mul-levels-4 : tie.Need-mul-levels-4 Inv-loop μ-loop
 mul-levels-4 c = search needs
 
 slice-write-levels-3 : tie.Need-slice-write-levels-3 Inv-loop μ-loop
-slice-write-levels-3 c = lt-length-set (c .before .loop .levels) (c .before .before .args .k * 3) (c .before .before .args .price) (omega arith)
+slice-write-levels-3 c = lt-length-set (c .before .loop .levels) (c .before .before .args .k * 3) (c .before .before .args .price .0) (omega arith)
 
 add-levels-3 : tie.Need-add-levels-3 Inv-loop μ-loop
 add-levels-3 c = search needs
@@ -70,13 +72,13 @@ mul-levels-5 : tie.Need-mul-levels-5 Inv-loop μ-loop
 mul-levels-5 c = search needs
 
 slice-write-levels-4 : tie.Need-slice-write-levels-4 Inv-loop μ-loop
-slice-write-levels-4 c = lt-length-set (set (c .before .loop .levels) (c .before .before .args .k * 3) (c .before .before .args .price)) (c .before .before .args .k * 3 + 1) 0 (lt-length-set (c .before .loop .levels) (c .before .before .args .k * 3) (c .before .before .args .price) (omega arith))
+slice-write-levels-4 c = lt-length-set (set (c .before .loop .levels) (c .before .before .args .k * 3) (c .before .before .args .price .0)) (c .before .before .args .k * 3 + 1) 0 (lt-length-set (c .before .loop .levels) (c .before .before .args .k * 3) (c .before .before .args .price .0) (omega arith))
 
 same-length : tie.Need-same-length Inv-loop μ-loop
 same-length c = search needs
 
 returns : tie.Need-returns Inv-loop μ-loop
-returns c = let a = c .before .before .args in let l = c .before .loop in let e : l .j ≡ a .k * 3 = omega arith in opened (a .levels .now) (l .levels) (a .n) (a .k) (a .price) (omega arith) (omega arith) (rw e at (l .inv .3))
+returns c = let a = c .before .before .args in let l = c .before .loop in let e : l .j ≡ a .k * 3 = omega arith in opened (a .levels .now) (l .levels) (a .n) (a .k) (a .price .0) (omega arith) (omega arith) (rw e at (l .inv .3))
 
 pub open-row-spec : {M : Type 1} → statement M
 open-row-spec =

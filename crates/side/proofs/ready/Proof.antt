@@ -19,7 +19,7 @@ returns : tie.Need-returns
 returns c = old refl refl (omega arith) (c .if2 .taken)
 
 open-row-requires : tie.Need-open-row-requires
-open-row-requires c κs = (omega arith, c .before .before .before .before .before .pre .2 (λ h. c .before .if2 .left))
+open-row-requires c κs = (omega arith, c .before .before .before .before .before .before .pre .2 (λ h. c .before .if2 .left))
 
 add-result : tie.Need-add-result
 add-result c = search needs
@@ -28,7 +28,7 @@ same-length : tie.Need-same-length
 same-length c = search needs
 
 returns-2 : tie.Need-returns-2
-returns-2 c = new refl (c .before .before .before .before .before .before .before .before .pre .2 (λ h. c .before .before .before .before .if2 .left)) (λ h. c .before .before .before .before .if2 .left) (c .before .before .open-row .ensures)
+returns-2 c = new refl (c .before .before .before .before .before .before .before .before .before .pre .2 (λ h. c .before .before .before .before .if2 .left)) (λ h. c .before .before .before .before .if2 .left) (c .before .before .open-row .ensures)
 
 open-row-requires-2 : tie.Need-open-row-requires-2
 open-row-requires-2 c κs = (omega arith, c .before .before .before .pre .2 (λ h. absurd (let z : ⊥ = omega arith in z)))

@@ -18,7 +18,7 @@ ready-requires : tie.Need-ready-requires
 ready-requires c κs = (c .before .find-row .ensures .within, c .before .before .before .before .before .before .before .before .before .before .before .pre .stored .mine .room, ready-needs (c .before .before .before .before .before .before .before .before .before .before .before .pre) 0 0 (c .before .find-row .ensures))
 
 append-requires : tie.Need-append-requires
-append-requires c κs = append-asks (c .before .before .before .before .before .before .before .before .before .before .before .before .before .before .before .before .pre) (c .before .before .before .before .before .before .before .before .before .before .before .before .before .before .before .before .args .id) (c .before .before .before .before .before .before .before .before .before .before .before .before .before .before .before .before .args .quantity) (c .before .before .before .before .before .before .find-row .ensures) (c .before .before .before .before .before .before .before .before .before .before .write .ensures) (c .before .before .before .before .ready .ensures)
+append-requires c κs = append-asks (c .before .before .before .before .before .before .before .before .before .before .before .before .before .before .before .before .pre) (c .before .before .before .before .before .before .before .before .before .before .before .before .before .before .before .before .args .id .0) (c .before .before .before .before .before .before .before .before .before .before .before .before .before .before .before .before .args .quantity .0) (c .before .before .before .before .before .before .find-row .ensures) (c .before .before .before .before .before .before .before .before .before .before .write .ensures) (c .before .before .before .before .ready .ensures)
 
 same-length : tie.Need-same-length
 same-length c = search needs
@@ -27,7 +27,7 @@ same-length-2 : tie.Need-same-length-2
 same-length-2 c = search needs
 
 returns : tie.Need-returns
-returns c = rests (c .before .before .before .before .before .before .before .before .before .before .before .before .before .before .before .before .before .before .before .before .before .pre) (c .before .before .before .before .before .before .before .before .before .before .before .before .before .before .before .before .before .before .before .before .before .args .id) (c .before .before .before .before .before .before .before .before .before .before .before .before .before .before .before .before .before .before .before .before .before .args .quantity) (c .before .before .before .before .before .before .before .before .before .before .before .find-row .ensures) (c .before .before .before .before .before .before .before .before .before .before .before .before .before .before .before .write .ensures) (c .before .before .before .before .before .before .before .before .before .ready .ensures) (c .before .before .before .before .before .before .before .before .before .before .before .before .before .before .before .before .before .take .ensures) (c .before .before .before .before .append .ensures .0) (c .before .before .before .before .append .ensures .1)
+returns c = rests (c .before .before .before .before .before .before .before .before .before .before .before .before .before .before .before .before .before .before .before .before .before .pre) (c .before .before .before .before .before .before .before .before .before .before .before .before .before .before .before .before .before .before .before .before .before .args .id .0) (c .before .before .before .before .before .before .before .before .before .before .before .before .before .before .before .before .before .before .before .before .before .args .quantity .0) (c .before .before .before .before .before .before .before .before .before .before .before .find-row .ensures) (c .before .before .before .before .before .before .before .before .before .before .before .before .before .before .before .write .ensures) (c .before .before .before .before .before .before .before .before .before .ready .ensures) (c .before .before .before .before .before .before .before .before .before .before .before .before .before .before .before .before .before .take .ensures) (c .before .before .before .before .append .ensures .0) (c .before .before .before .before .append .ensures .1)
 
 pub rest-spec : {M : Type 1} → statement M
 rest-spec =

@@ -1,86 +1,121 @@
--- `survey` comes to what the rules say the order would do. Each turn of its two loops, and each way out, is a law of Walk. Assumes nothing.
 use Prim.Native.Nat.{_-_, _≤_}
 use mathlib.Core.Path.{sym, _∙_}
 use native.Mathlib.Omega.{arith}
 use borrow.Author.Tests.{not-false, not-true}
 use Rattle.models.specs.Sums.{capped}
-use Rattle.survey.proofs.Walk.{Along, Inside, ahead, along-start, prices-beyond, prices-none, queue-done, queue-full, queue-less, queue-next, queue-row, queue-start}
+use Rattle.survey.proofs.Walk.{Along, Inside, ahead, along-done, along-start, prices-beyond, prices-none, queue-done, queue-full, queue-less, queue-next, queue-row, queue-start}
 use borrow.Author.Needs.{needs}
 use Rattle.survey.proofs.survey.Statement.{statement}
 use Rattle.survey.proofs.survey.Tie as tie
+use Rattle.survey.proofs.survey.Reads as reads
+use Rattle.survey.proofs.survey.Lts as lts
+use Rattle.models.proofs.Side.opposite.Reads as opposite-reads
+use Rattle.records.proofs.load.Reads as load-reads
+use Rattle.side.proofs.visit.Reads as visit-reads
+use Rattle.survey.proofs.meet.Reads as meet-reads
+use Rattle.survey.proofs.reaches.Reads as reaches-reads
 
 abbrev Inv-loop : tie.InvT-loop
-Inv-loop records levels n t s₀ k at c₀ s c = Inside records levels n t s (k - 1) c
+Inv-loop records levels n t s₀ makers k at c₀ s c = Inside records levels n t s (k - 1) c × (1 ≤ s .left .0)
 
 abbrev μ-loop : tie.MeasureT-loop
-μ-loop records levels n t s₀ k at c₀ s c = s .left .0
+μ-loop records levels n t s₀ makers k at c₀ s c = s .left .0
 
 abbrev Inv-prices : tie.InvT-prices
-Inv-prices records levels n t s₀ k₀ s k = (k ≤ n) × Along records levels n t s (ahead records levels n t k)
+Inv-prices records levels n t s₀ makers k₀ s k = (k ≤ n) × Along records levels n t s (ahead records levels n t k) × (1 ≤ s .left .0)
 
 abbrev μ-prices : tie.MeasureT-prices
-μ-prices records levels n t s₀ k₀ s k = k
+μ-prices records levels n t s₀ makers k₀ s k = k
 
+-- src/lib.rt:103:9
+opposite-requires : tie.Need-opposite-requires Inv-loop μ-loop Inv-prices μ-prices
+opposite-requires c κs = search needs
+
+-- src/lib.rt:106:9
+returns : tie.Need-returns Inv-loop μ-loop Inv-prices μ-prices
+unfolding capped
+returns c = along-done _ _ _ (c .before .before .before .before .before .args .t) (c .before .before .before .before .before .pre) (c .if1 .taken) (along-start _ _ _ (c .before .before .before .before .before .args .t) (c .before .before .before .before .before .pre))
+
+-- src/lib.rt:108:5
 prices-holds : tie.Need-prices-holds Inv-loop μ-loop Inv-prices μ-prices
 unfolding capped
-prices-holds c = (omega arith, along-start _ _ _ _ (c .before .before .pre))
+prices-holds c = (omega arith, along-start _ _ _ _ (c .before .before .before .before .before .pre), omega (arith, c .if1 .left))
 
+-- src/lib.rt:109:18
 visit-requires : tie.Need-visit-requires Inv-loop μ-loop Inv-prices μ-prices
 visit-requires c κs = search needs
 
+-- src/lib.rt:109:18
 mul-at : tie.Need-mul-at Inv-loop μ-loop Inv-prices μ-prices
 mul-at c = search needs
 
-mul-reaches : tie.Need-mul-reaches Inv-loop μ-loop Inv-prices μ-prices
-mul-reaches c = search needs
-
-shared-slice-read-reaches : tie.Need-shared-slice-read-reaches Inv-loop μ-loop Inv-prices μ-prices
-shared-slice-read-reaches c = search needs
-
-reaches-requires : tie.Need-reaches-requires Inv-loop μ-loop Inv-prices μ-prices
-reaches-requires c κs = search needs
-
-add-c : tie.Need-add-c Inv-loop μ-loop Inv-prices μ-prices
-add-c c = search needs
-
+-- src/lib.rt:110:30
 mul-c : tie.Need-mul-c Inv-loop μ-loop Inv-prices μ-prices
 mul-c c = search needs
 
+-- src/lib.rt:110:30
 shared-slice-read-c : tie.Need-shared-slice-read-c Inv-loop μ-loop Inv-prices μ-prices
 shared-slice-read-c c = search needs
 
+-- src/lib.rt:110:13
+reaches-requires : tie.Need-reaches-requires Inv-loop μ-loop Inv-prices μ-prices
+reaches-requires c κs = search needs
+
+-- src/lib.rt:113:28
+add-c : tie.Need-add-c Inv-loop μ-loop Inv-prices μ-prices
+add-c c = search needs
+
+-- src/lib.rt:113:21
+mul-c-2 : tie.Need-mul-c-2 Inv-loop μ-loop Inv-prices μ-prices
+mul-c-2 c = search needs
+
+-- src/lib.rt:113:21
+shared-slice-read-c-2 : tie.Need-shared-slice-read-c-2 Inv-loop μ-loop Inv-prices μ-prices
+shared-slice-read-c-2 c = search needs
+
+-- src/lib.rt:114:9
 loop-holds : tie.Need-loop-holds Inv-loop μ-loop Inv-prices μ-prices
-loop-holds c = queue-start _ _ _ _ (c .before .before .before .before .before .before .before .before .before .pre) (c .before .before .before .before .before .before .prices .inv .0) (c .before .before .before .before .before .prices-test .taken) (c .before .before .before .before .visit .ensures .0) (c .before .before .before .before .visit .ensures .1) (sym (c .before .before .reaches .ensures) ∙ not-false _ (c .before .if1 .left)) (c .before .before .before .before .before .before .prices .inv .1)
+loop-holds c = (queue-start _ _ _ _ (c .before .before .before .before .before .before .before .before .before .before .before .before .pre) (c .before .before .before .before .before .before .prices .inv .0) (c .before .before .before .before .before .prices-test .taken) (rw (c .before .before .before .before .before .before .before .before .before .opposite .ensures) at (c .before .before .before .before .visit .ensures .0)) (c .before .before .before .before .visit .ensures .1) (sym (c .before .before .reaches .ensures) ∙ not-false _ (c .before .if2 .left)) (c .before .before .before .before .before .before .prices .inv .1), c .before .before .before .before .before .before .prices .inv .2)
 
+-- src/lib.rt:115:13
 meet-requires : tie.Need-meet-requires Inv-loop μ-loop Inv-prices μ-prices
-meet-requires c κs = (queue-row _ _ _ _ (c .before .before .before .before .before .before .before .before .before .before .before .before .before .pre) (omega arith) (c .before .before .before .loop .inv), omega arith, omega (arith, c .before .before .before .loop .inv .along .count), c .before .before .before .loop .inv .along .fewer)
+meet-requires c κs = (queue-row _ _ _ _ (c .before .before .before .before .before .before .before .before .before .before .before .before .before .before .pre) (omega arith) (c .before .loop .inv .0), c .before .loop .inv .1, omega (arith, c .before .loop .inv .0 .along .count), c .before .loop .inv .0 .along .fewer)
 
+-- src/lib.rt:119:13
 load-requires : tie.Need-load-requires Inv-loop μ-loop Inv-prices μ-prices
-load-requires c κs = (omega arith, queue-row _ _ _ _ (c .before .before .before .before .before .before .before .before .before .before .before .before .before .before .pre) (omega arith) (c .before .before .before .before .loop .inv))
+load-requires c κs = (omega arith, queue-row _ _ _ _ (c .before .before .before .before .before .before .before .before .before .before .before .before .before .before .before .before .before .pre) (omega arith) (c .before .before .before .before .loop .inv .0))
 
+-- src/lib.rt:114:9
 loop-less : tie.Need-loop-less Inv-loop μ-loop Inv-prices μ-prices
-loop-less c = rw (c .before .meet .ensures) (queue-less _ _ _ _ (c .before .before .before .before .before .before .before .before .before .before .before .before .before .before .before .pre) (omega arith) (c .before .before .before .before .before .loop .inv) (omega arith))
+loop-less c = rw (c .before .before .before .meet .ensures) (queue-less _ _ _ _ (c .before .before .before .before .before .before .before .before .before .before .before .before .before .before .before .before .before .before .pre) (omega arith) (c .before .before .before .before .before .loop .inv .0) (c .before .before .before .before .before .loop .inv .1))
 
+-- src/lib.rt:114:9
 loop-again : tie.Need-loop-again Inv-loop μ-loop Inv-prices μ-prices
-loop-again c = rw (c .load .ensures, c .before .meet .ensures) (queue-next _ _ _ _ (c .before .before .before .before .before .before .before .before .before .before .before .before .before .before .before .pre) (omega arith) (c .before .before .before .before .before .loop .inv) (omega arith))
+loop-again c = (rw (c .load .ensures, c .before .before .before .meet .ensures) (queue-next _ _ _ _ (c .before .before .before .before .before .before .before .before .before .before .before .before .before .before .before .before .before .before .pre) (omega arith) (c .before .before .before .before .before .loop .inv .0) (c .before .before .before .before .before .loop .inv .1)), omega (arith, c .before .if3 .left))
 
+-- src/lib.rt:121:9
 sub-k : tie.Need-sub-k Inv-loop μ-loop Inv-prices μ-prices
 sub-k c = search needs
 
+-- src/lib.rt:108:5
 prices-less : tie.Need-prices-less Inv-loop μ-loop Inv-prices μ-prices
 prices-less c = search needs
 
+-- src/lib.rt:108:5
 prices-again : tie.Need-prices-again Inv-loop μ-loop Inv-prices μ-prices
-prices-again c = (omega arith, queue-done _ _ _ _ (c .before .before .before .before .before .before .before .before .before .before .before .pre) (omega arith) (c .before .loop .inv))
+prices-again c = (omega arith, queue-done _ _ _ _ (c .before .before .before .before .before .before .before .before .before .before .before .before .before .before .pre) (omega arith) (c .before .loop .inv .0), c .before .loop .inv .1)
 
-returns : tie.Need-returns Inv-loop μ-loop Inv-prices μ-prices
-returns c = prices-none _ _ _ _ (c .before .before .before .before .pre) (c .before .prices .inv .0) (omega arith) (c .before .prices .inv .1)
-
+-- src/lib.rt:88:1
 returns-2 : tie.Need-returns-2 Inv-loop μ-loop Inv-prices μ-prices
-returns-2 c = prices-beyond _ _ _ _ (c .before .before .before .before .before .before .before .before .pre) (c .before .before .before .before .before .prices .inv .0) (c .before .before .before .before .prices-test .taken) (c .before .before .before .visit .ensures .0) (c .before .before .before .visit .ensures .1) (sym (c .before .reaches .ensures) ∙ not-true _ (c .if1 .taken)) (c .before .before .before .before .before .prices .inv .1)
+returns-2 c = prices-none _ _ _ _ (c .before .before .before .before .before .before .before .pre) (c .before .prices .inv .0) (omega arith) (c .before .prices .inv .1)
 
+-- src/lib.rt:88:1
 returns-3 : tie.Need-returns-3 Inv-loop μ-loop Inv-prices μ-prices
-returns-3 c = queue-full _ _ _ _ (c .before .before .before .before .before .before .before .before .before .before .before .before .before .pre) (omega arith) (c .before .before .before .loop .inv)
+returns-3 c = prices-beyond _ _ _ _ (c .before .before .before .before .before .before .before .before .before .before .before .pre) (c .before .before .before .before .before .prices .inv .0) (c .before .before .before .before .prices-test .taken) (rw (c .before .before .before .before .before .before .before .before .opposite .ensures) at (c .before .before .before .visit .ensures .0)) (c .before .before .before .visit .ensures .1) (sym (c .before .reaches .ensures) ∙ not-true _ (c .if2 .taken)) (c .before .before .before .before .before .prices .inv .1)
+
+-- src/lib.rt:88:1
+returns-4 : tie.Need-returns-4 Inv-loop μ-loop Inv-prices μ-prices
+returns-4 c = rw (c .before .before .meet .ensures) (queue-full _ _ _ _ (c .before .before .before .before .before .before .before .before .before .before .before .before .before .before .before .before .before .pre) (rw (c .before .before .meet .ensures) at (c .if3 .taken)) (queue-next _ _ _ _ (c .before .before .before .before .before .before .before .before .before .before .before .before .before .before .before .before .before .pre) (omega arith) (c .before .before .before .before .loop .inv .0) (c .before .before .before .before .loop .inv .1)))
 
 pub survey-spec : {M : Type 1} → statement M
 survey-spec =
@@ -90,15 +125,17 @@ survey-spec =
     μ-loop
     Inv-prices
     μ-prices
+    opposite-requires
+    returns
     prices-holds
     visit-requires
     mul-at
-    mul-reaches
-    shared-slice-read-reaches
-    reaches-requires
-    add-c
     mul-c
     shared-slice-read-c
+    reaches-requires
+    add-c
+    mul-c-2
+    shared-slice-read-c-2
     loop-holds
     meet-requires
     load-requires
@@ -107,6 +144,6 @@ survey-spec =
     sub-k
     prices-less
     prices-again
-    returns
     returns-2
-    returns-3)
+    returns-3
+    returns-4)

@@ -1,0 +1,7 @@
+pub mod Answers
+pub mod Performed
+pub mod Placement
+pub mod Outcomes
+pub mod History
+pub mod Numbers
+pub mod Exports

@@ -1,0 +1,3 @@
+pub mod Outcomes
+pub mod History
+pub mod Exports
