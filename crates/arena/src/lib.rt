@@ -56,7 +56,8 @@ pub fn unlink(records: &mut [u64], levels: &mut [u64], k: usize, c: u64)
 
 // The record `c` behind the last of row k's queue.
 pub fn append(records: &mut [u64], levels: &mut [u64], k: usize, c: u64)
-    requires { ⌜ (k * 3 + 2 < length (now levels)) × RecordAt (now records) c × (1 ≤ tailOf (now levels) k → RecordAt (now records) (tailOf (now levels) k)) ⌝ }
+    requires { ⌜ (k * 3 + 2 < length (now levels)) × RecordAt (now records) c
+        × (1 ≤ tailOf (now levels) k → RecordAt (now records) (tailOf (now levels) k)) ⌝ }
     ensures { λ _. ⌜ now (records .exit) ≡ appended (now (records .entry)) (tailOf (now (levels .entry)) k) c ⌝ }
     ensures { λ _. ⌜ now (levels .exit) ≡ appendedRow (now (levels .entry)) k (tailOf (now (levels .entry)) k) c ⌝ }
 {

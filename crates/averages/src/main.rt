@@ -2,16 +2,15 @@
 // recorded by value and by loan and compared. Each line says what was found, and `equal` or `DIFFERS`.
 mod cases; // cases.rt: S, quantity and the bits of their average
 
-ghost use Rattle.models.specs.Statistics.{fillsIn, Follows};
+ghost use Rattle.stats.specs.Statistics.{fillsIn, Follows};
 use libc::STDOUT_FILENO;
-use models::LastTrade;
 use models::Quantity;
-use models::Recorded;
-use models::Statistics;
-use models::Trade;
-use models::bits;
-use models::door;
-use models::stats;
+use stats::LastTrade;
+use stats::Recorded;
+use stats::Statistics;
+use stats::Trade;
+use stats::bits;
+use stats::door;
 
 // How many numbers a case has.
 const CASE: usize = 3;

@@ -4,8 +4,8 @@ use orderbook::RECORDS;
 use script::OwnDesk;
 use tell::put;
 
-// In a book of three orders on fresh storage: where the quantity and the price of order 1 stand (orders take their places from the last one down, five numbers each), where the search has its
-// place for id 1, and the numbers of the places of orders 1 and 2.
+// In a book of three orders on fresh storage: where the quantity and the price of order 1 stand (orders take their places from the last one down, five
+// numbers each), where the search has its place for id 1, and the numbers of the places of orders 1 and 2.
 const QUANTITY_OF_1: usize = 5116;
 
 const PRICE_OF_1: usize = 5117;

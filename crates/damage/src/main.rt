@@ -1,5 +1,5 @@
-// Refusal 1: calls on books that aren't whole and over storage of other lengths. Crate kept says of each refused order and depth whether it changed anything; a refused fresh book is shown to
-// leave all four slices as they were; a quote is lent nothing that it could change.
+// Refusal 1: calls on books that aren't whole and over storage of other lengths. Crate kept says of each refused order and depth whether it changed
+// anything; a refused fresh book is shown to leave all four slices as they were; a quote is lent nothing that it could change.
 mod harms; // harms.rt: single numbers of a desk changed
 mod lengths; // lengths.rt: storage of other lengths
 
@@ -7,8 +7,8 @@ use harms::HARMS;
 use harms::damaged;
 use lengths::LENGTHS;
 use models::OrderType;
-use script::OwnDesk;
 use script::FILLS;
+use script::OwnDesk;
 use script::Quotes;
 use script::SHOWN;
 use tell::put;

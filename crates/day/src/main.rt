@@ -2,7 +2,6 @@
 // A line says what came in; then comes the answer, a line a fill, and where the book and the statistics stand.
 mod lists; // lists.rt: what is done, in order
 
-use calls::Deep;
 use lists::LENGTH;
 use lists::LISTS;
 use lists::Next;
@@ -12,13 +11,13 @@ use lists::TWO_FILLS;
 use lists::next_of;
 use models::BookDepth;
 use models::BookLevel;
-use models::LastTrade;
 use models::OrderType;
-use models::Statistics;
-use models::Trade;
-use models::rows;
+use questions::Deep;
 use script::OwnDesk;
 use script::Quotes;
+use stats::LastTrade;
+use stats::Statistics;
+use stats::Trade;
 use tell::line;
 use tell::number;
 use tell::put;

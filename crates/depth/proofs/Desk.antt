@@ -8,7 +8,7 @@ use lib.ListN.{length}
 use borrow.Author.Tests.{not-true}
 use Rattle.side.specs.Orders.{ordersIn}
 use Rattle.rules.specs.Rules.{Side, anyAbove, ask, bid, levels, most}
-use Rattle.models.specs.Rows.{levelRow, places}
+use Rattle.rows.specs.Rows.{levelRow, places}
 use Rattle.side.proofs.Stored.{row-of}
 use Rattle.ledger.specs.Desk.{LedgerIn, storedBook, found}
 use Rattle.depth.specs.Sides.{Fitting, Standing}

@@ -16,9 +16,9 @@ use Rattle.arena.specs.Times.{times}
 use Rattle.arena.proofs.Free.{chain-chain}
 use Rattle.arena.proofs.Links.{link-some}
 use Rattle.arena.proofs.Times.{one-self}
-use Rattle.models.specs.Sums.{capped, plusOf}
-use Rattle.models.proofs.Capped.{plus-capped}
-use Rattle.models.specs.declared.sums.Sum.{Sum}
+use Rattle.sums.specs.Sums.{capped, plusOf}
+use Rattle.sums.proofs.Capped.{plus-capped}
+use Rattle.sums.specs.declared.Sum.{Sum}
 use Rattle.depth.specs.Sides.{QueueIn, quantities, queueIn}
 
 chain-length : (m : ℕ) (rs : List ℕ) (c : ℕ) → length (chain m rs c) ≤ m

@@ -13,11 +13,11 @@ use borrow.Rule.Slice.PartMut.{midOf, post-is, postOf, putMid}
 use borrow.Author.Tests.{le-ltb, lt-ltb, ltb-false}
 use Rattle.side.specs.Orders.{ordersIn}
 use Rattle.rules.specs.Rules.{Level, Side, anyAbove, ask, bid, levels, most}
-use Rattle.models.specs.Rows.{levelRow, written}
-use Rattle.models.specs.Sums.{capped}
-use Rattle.models.specs.declared.sums.Sum.{Sum}
-use Rattle.models.proofs.Capped.{capped-large, capped-small}
-use Rattle.models.proofs.Places.{level-faithful, written-append, written-length, written-none, written-part, written-step}
+use Rattle.rows.specs.Rows.{levelRow, written}
+use Rattle.sums.specs.Sums.{capped}
+use Rattle.sums.specs.declared.Sum.{Sum}
+use Rattle.sums.proofs.Capped.{capped-large, capped-small, or-false}
+use Rattle.rows.proofs.Places.{level-faithful, written-append, written-length, written-none, written-part, written-step}
 use Rattle.arena.specs.Links.{headOf, priceOf}
 use Rattle.depth.specs.Sides.{Fitting, Standing, ascending, quantities, queueIn}
 use Rattle.depth.proofs.Levels.{levels-ascending, levels-count, levels-in, totals-none, totals-step, totalsFrom, totalsIn}
@@ -96,10 +96,6 @@ put-start {rs} {lv} {n} out s f =
     let e : n - 0 ≡ n = omega arith in
     record { within = omega arith; long = refl; fits = rw e (sym (above-in s (f .on) (f .fnd)) ∙ f .fits); same = rw e }
 
-both : (a b : Bool) → a || b ≡ false → (a ≡ false) × (b ≡ false)
-both true b x = absurd (let z : _≡_ {A = ℕ} 0 1 = cc in let y : ⊥ = omega arith in y)
-both false b x = (refl, x)
-
 module _ {rs lv : List ℕ} {n : ℕ} {out₀ out : List ℕ} {i : ℕ} (p : Put rs lv n out₀ out i) where
   module _ {t : Sum} (h : i < n) (room : n * 2 ≤ length out₀) (e : t ≡ capped (quantities rs (queueIn rs (headOf lv i)))) where
     abbrev q : ℕ
@@ -107,7 +103,7 @@ module _ {rs lv : List ℕ} {n : ℕ} {out₀ out : List ℕ} {i : ℕ} (p : Put
 
     split : (ltb most q ≡ false) × (anyAbove most (totalsFrom rs lv (i + 1) (n - (i + 1))) ≡ false)
     unfolding anyAbove
-    split = both (ltb most q) (anyAbove most (totalsFrom rs lv (i + 1) (n - (i + 1)))) (sym (ap (anyAbove most) (totals-step rs lv i n h)) ∙ p .fits)
+    split = or-false (ltb most q) (anyAbove most (totalsFrom rs lv (i + 1) (n - (i + 1)))) (sym (ap (anyAbove most) (totals-step rs lv i n h)) ∙ p .fits)
 
     whole : t .sum ≡ q
     whole = rw (e, capped-small q (ltb-false most q (split .0)))

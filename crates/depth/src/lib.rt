@@ -7,8 +7,8 @@ ghost use Prim.Native.Nat.{ℕ, _+_, _*_, _<_, _≤_};
 ghost use lib.ListN.{length};
 ghost use Rattle.side.specs.Orders.{ordersIn};
 ghost use Rattle.rules.specs.Rules as rule;
-ghost use Rattle.models.specs.Rows.{levelRow, written};
-ghost use Rattle.models.specs.Sums.{capped};
+ghost use Rattle.rows.specs.Rows.{levelRow, written};
+ghost use Rattle.sums.specs.Sums.{capped};
 ghost use Rattle.side.specs.Prices.{Rising};
 ghost use Rattle.models.specs.Readings.{sideOf};
 ghost use Rattle.depth.specs.Sides.{Standing, ascending, Fitting, queueIn, QueueIn, quantities};
@@ -20,15 +20,15 @@ use models::Id;
 use models::Price;
 use models::Quantity;
 use models::Side;
-use models::rows::put_level;
-use models::sums::Sum;
-use models::sums::exact;
-use models::sums::plus;
 use records::NEXT;
 use records::PRICE;
 use records::QUANTITY;
 use records::load;
+use rows::put_level;
 use side::visit;
+use sums::Sum;
+use sums::exact;
+use sums::plus;
 
 // A level is two numbers of the lent buffer.
 const LEVEL: usize = 2;
@@ -103,7 +103,8 @@ pub fn totals_fit(records: &[u64], levels: &[u64], n: usize) -> bool
 pub fn put_levels(records: &[u64], levels: &[u64], n: usize, out: &mut [u64])
     requires { ⌜ Standing (now records) (now levels) n × Fitting (now records) (now levels) n × (n * 2 ≤ length (now out)) ⌝ }
     ensures { λ _. ⌜ ((sd : rule.Side) (fnd : ℕ → Bool)
-        → now (out .exit) ≡ written levelRow (now (out .entry)) 0 (ascending sd (rule.levels (ordersIn sd (now (records .entry)) fnd (now (levels .entry)) n)))) ⌝ }
+        → now (out .exit)
+        ≡ written levelRow (now (out .entry)) 0 (ascending sd (rule.levels (ordersIn sd (now (records .entry)) fnd (now (levels .entry)) n)))) ⌝ }
 {
     let mut i = 0;
     while i < n {

@@ -1,5 +1,5 @@
--- An order from its outlook to what the rules say of it: asked of the doors step by step, and put together. Assumes nothing.
-use Prim.Native.Nat.{ℕ, _+_, _-_, _≤_, _<_}
+-- An order refused, or accepted and carried out, as the rules say of it. Assumes nothing.
+use Prim.Native.Nat.{ℕ, suc, _+_, _-_, _≤_}
 use native.Mathlib.Omega.{arith}
 use mathlib.Core.Path.{_≡_, refl, sym, ap, _∙_, subst}
 use mathlib.Core.Bool.{Bool, true, false, _&&_}
@@ -7,44 +7,33 @@ use mathlib.Core.List.{List, [], _∷_}
 use mathlib.Core.Option.{Option, none, some}
 use lib.Dec.{leb, ltb}
 use lib.ListN.{length}
-use borrow.Author.Tests.{leb-false, lt-leb, ltb-false}
 use Rattle.rules.specs.Rules as rule
-use Rattle.rules.specs.Rules.{Book, Order, Outcome, book, carried, firstOf, opposite, outcome, own, perform, refusal}
+use Rattle.rules.specs.Rules.{carried, firstOf, opposite, own, perform, refusal}
 use Rattle.rules.specs.Whole.{WholeBook}
-use Rattle.rules.proofs.Basics.{not-both, own-book}
-use Rattle.rules.proofs.Bounds.{outcome-fewer, whole-book-after}
+use Rattle.rules.proofs.Bounds.{whole-book-after}
 use Rattle.models.specs.declared.Side.{Side}
 use Rattle.models.specs.declared.Side.the-variants.{Bid, Ask}
 use Rattle.models.specs.declared.OrderEvent.{OrderEvent}
-use Rattle.models.specs.declared.Statistics.{Statistics}
-use Rattle.models.specs.declared.stats.Totals.{Totals}
-use Rattle.models.specs.Readings.{eventOf, sideOf, statisticsOf}
-use Rattle.models.specs.Rows.{fillRow, places}
-use Rattle.models.specs.Statistics.{VolumeFits, totalsOf}
-use Rattle.models.proofs.Recording.{volume-fits, traded-after}
-use Rattle.records.specs.Rows.{recordCount}
+use Rattle.stats.specs.declared.Statistics.{Statistics}
+use Rattle.models.specs.Readings.{eventOf, sideOf}
+use Rattle.rows.specs.Rows.{fillRow, places}
 use Rattle.ledger.specs.declared.OrderBook.{OrderBook}
 use Rattle.ledger.specs.Stock.{Stock}
-use Rattle.ledger.specs.Desk.{LeavesAs, Tidy, found, readBook, storedBook}
-use Rattle.ledger.specs.Doors.{RoomOn, restIn}
-use Rattle.whole.specs.Whole.{Lengths}
-use Rattle.whole.proofs.Desk.{desk-resting, open-place, desk-room}
+use Rattle.ledger.specs.Desk.{found, readBook, storedBook}
+use Rattle.whole.proofs.Desk.{desk-resting}
 use Rattle.depth.proofs.Desk.{standing-bids, standing-asks}
 use Rattle.survey.specs.declared.Taker.{Taker}
 use Rattle.survey.specs.declared.Outlook.{Outlook}
-use Rattle.survey.specs.Surveyed.{surveyed}
-use Rattle.survey.specs.Taker.{takerOf, metSide}
-use Rattle.matching.specs.declared.Last.{Last}
-use Rattle.trade.specs.Trade.{CanTrade, Trades, afterTrade}
-use Rattle.order.specs.Decided.{refusalNumber, filled, remains, totalsBy, passes, decided, eventBy}
-use Rattle.order.proofs.Judging.{left-within, totals-are, passes-is, event-is, refusal-is}
+use Rattle.survey.specs.Taker.{takerOf}
+use Rattle.order.specs.Decided.{refusalNumber, remains, passes, decided}
+use Rattle.order.proofs.Judging.{left-within, refusal-is}
+use Rattle.fulfil.specs.Fulfils.{Foretells, noRow, Accepted, Fulfils}
+use Rattle.fulfil.proofs.Fulfilling.{lengths-stay}
 use Rattle.desk.specs.declared.Answer.the-variants.{Refused, Done}
 use Rattle.desk.specs.Stock.{Sound, readDesk}
 use Rattle.desk.specs.Performs as perf
 use Rattle.desk.specs.Performs.{Performs}
-use Rattle.desk.specs.Steps.{Foretells, noRow, Crowds, CrowdsOn, CanSettle, Settles, Accepted, Fulfils}
-use Rattle.desk.proofs.Asking.{lengths-stay}
-use Rattle.desk.proofs.Carrying.{number-some, decided-none, performs-refused, performs-carried, traded, carried-rests, carried-lapses}
+use Rattle.desk.specs.Steps.{Crowds, CrowdsOn}
 
 -- ## a price without a row, on the order's own side
 
@@ -57,203 +46,41 @@ module _ (most : ℕ) (t : Taker) (b : OrderBook) (bd ak : List ℕ) {r : Bool} 
   crowds-ask e h rs se x y =
       h rs rule.ask (found se rs) y ∙ sym (ap (λ (v : Side). noRow most (t .limit .0) (own (sideOf v) (storedBook rs bd ak se (b .bids) (b .asks)))) e)
 
--- ## the remainder
-
-module _ (rests : Bool) (t : Taker) (left : ℕ) (k : Stock) where
-  pub settle-idle : rests ≡ false → Tidy k → Settles rests t left (readBook k) k
-  settle-idle e d = record { stands = λ f. absurd (not-both rests f e); lapses = λ _. record { desk = d; book = refl } }
-
-  pub settle-rests : {k′ : Stock} → rests ≡ true → LeavesAs (restIn (sideOf (t .side)) (t .id .0) left (t .limit .0) (readBook k)) k′ → Settles rests t left (readBook k) k′
-  settle-rests e l = record { stands = λ _. l; lapses = λ g. absurd (not-both rests e g) }
-
--- ## what no refusal says
-
-module _ (n : ℕ) (t : Taker) (s : Outlook) (st : Statistics) (r f c : Bool) (no : decided n t s st r f c ≡ none) where
-  pub record Fine : Type 0 where
-    pub room : s .fills ≤ n
-    pub sum : passes t s st ≡ false
-    pub place : r ≡ true → f ≡ false
-    pub row : r ≡ true → c ≡ false
-
-  pub fine : Fine
-  unfolding decided firstOf
-  fine = go (ltb n (s .fills)) refl (passes t s st) refl r refl f refl c refl no
-    where
-      some-none : (k : ℕ) → _≡_ {A = Option ℕ} (some k) none → ⊥
-      some-none k e = let x : _≡_ {A = ℕ} 0 1 = cc in let y : ⊥ = omega arith in y
-
-      go : (a : Bool) → ltb n (s .fills) ≡ a → (b : Bool) → passes t s st ≡ b → (d : Bool) → r ≡ d → (e : Bool) → f ≡ e → (h : Bool) → c ≡ h
-          → firstOf ((2, a) ∷ (3, b) ∷ (4, d && e) ∷ (5, d && h) ∷ []) ≡ none → Fine
-      go true p b q d i e j h k x = absurd (some-none 2 x)
-      go false p true q d i e j h k x = absurd (some-none 3 x)
-      go false p false q true i true j h k x = absurd (some-none 4 x)
-      go false p false q true i false j true k x = absurd (some-none 5 x)
-      go false p false q true i false j false k x = record { room = ltb-false n (s .fills) p; sum = q; place = λ _. j; row = λ _. k }
-      go false p false q false i e j h k x = record { room = ltb-false n (s .fills) p; sum = q; place = λ y. absurd (not-both r y i); row = λ y. absurd (not-both r y i) }
-
-book-count : (s : rule.Side) (l k : List (Order (Unit {0}))) → length ((book s l k) .bids) + length ((book s l k) .asks) ≡ length l + length k
-book-count rule.bid l k = refl
-book-count rule.ask l k = omega arith
-
-own-count : (s : rule.Side) (b : Book (Unit {0})) → length (b .bids) + length (b .asks) ≡ length (own s b) + length (own (opposite s) b)
-own-count rule.bid b = refl
-own-count rule.ask b = omega arith
-
-book-other : (s : rule.Side) (l k : List (Order (Unit {0}))) → book (opposite s) l k ≡ book s k l
-book-other rule.bid l k = refl
-book-other rule.ask l k = refl
-
--- ## an order that nothing speaks against
-
-module _ {t : Taker} {s : Outlook} {rests : Bool} {k : Stock} {st : Statistics} {out : List ℕ} (x : Accepted t s rests k st out) where
-  abbrev n : ℕ
-  n = places fillRow out
-
-  abbrev u : rule.Taker (Unit {0})
-  u = takerOf n t
-
-  abbrev makers : List (Order (Unit {0}))
-  makers = own (opposite (sideOf (t .side))) (readBook k)
-
-  abbrev o : Outcome (Unit {0})
-  o = outcome u makers
-
-  abbrev p : ℕ
-  p = t .limit .0
-
-  abbrev full? : Bool
-  full? = leb (x .size .orders) (k .book .resting)
-
-  tested : Fine n t s st rests full? (x .crowded) (x .fine)
-  tested = fine n t s st rests full? (x .crowded) (x .fine)
-
-  told : (room : ℕ) → s ≡ surveyed (outcome (takerOf room t) makers)
-  told room = x .foretold room (k .search)
-
-  pub trade-asks : CanTrade t (s .used) k out
-  trade-asks = record {
-    tidy = x .sound .tidy;
-    whole = x .sound .orderly .orderly;
-    used = λ room. ap (λ (v : Outlook). v .used) (told room);
-    room = λ room. let e : s .fills ≡ length ((outcome (takerOf room t) makers) .fills) = ap (λ (v : Outlook). v .fills) (told room) in omega (arith, tested .room);
-  }
-
-  pub left-asks : s .left .0 ≤ t .qty .0
-  left-asks = subst (λ (v : Outlook). v .left .0 ≤ t .qty .0) (sym (told n)) (left-within n t makers)
-
-  rest-is : s .left .0 ≡ o .rest
-  rest-is = ap (λ (v : Outlook). v .left .0) (told n)
-
-  totals-is : {y : Totals} → y ≡ totalsBy t s → y ≡ totalsOf (o .fills)
-  totals-is e = e ∙ (ap (totalsBy t) (told n) ∙ sym (totals-are n t makers))
-
-  no-sum : rule.tooLarge (o .fills) (statisticsOf st) ≡ false
-  no-sum = passes-is n t makers st ∙ (sym (ap (λ (v : Outlook). passes t v st) (told n)) ∙ tested .sum)
-
-  pub traded-asks : {y : Totals} → y ≡ totalsBy t s → VolumeFits st (y .quantity .sum)
-  traded-asks e = subst (λ (v : Totals). VolumeFits st (v .quantity .sum)) (sym (totals-is e)) (volume-fits st (o .fills) no-sum)
-
-  -- what the trade leaves
-  module _ {m : Stock} {out′ : List ℕ} {last : Last} (tr : Trades t (readBook k) out m out′ last)
-      (lr : length (m .records) ≡ length (k .records)) (lb : length (m .bids) ≡ length (k .bids))
-      (la : length (m .asks) ≡ length (k .asks)) (ls : length (m .search) ≡ length (k .search)) where
-    mid : LeavesAs (afterTrade n t (readBook k)) m
-    mid = tr .book n
-
-    mid-lengths : Lengths (x .size) (m .records) (m .bids) (m .asks) (m .search)
-    mid-lengths = lengths-stay lr lb la ls (x .sound .lengths)
-
-    mid-own : own (sideOf (t .side)) (readBook m) ≡ own (sideOf (t .side)) (readBook k)
-    mid-own =
-        ap (own (sideOf (t .side))) (mid .book ∙ book-other (sideOf (t .side)) (o .left) (own (sideOf (t .side)) (readBook k)))
-        ∙ own-book (sideOf (t .side)) (own (sideOf (t .side)) (readBook k)) (o .left)
-
-    mid-place : rests ≡ true → m .book .resting < recordCount (m .records)
-    mid-place r =
-        let b = readBook m in
-        let h : k .book .resting < x .size .orders = leb-false (x .size .orders) (k .book .resting) (tested .place r) in
-        let c : length (b .bids) + length (b .asks) ≡ length (o .left) + length (own (sideOf (t .side)) (readBook k)) =
-        ap (λ (v : Book (Unit {0})). length (v .bids) + length (v .asks)) (mid .book) ∙ book-count (metSide t) (o .left) (own (sideOf (t .side)) (readBook k)) in
-        let l : length (b .bids) + length (b .asks) < x .size .orders =
-        omega (arith, c, outcome-fewer u makers, own-count (sideOf (t .side)) (readBook k), desk-resting (x .sound .tidy)) in
-        open-place (mid .desk) (x .size) p mid-lengths (lt-leb (x .size .orders) (length (b .bids) + length (b .asks)) l)
-
-    mid-row : rests ≡ true → RoomOn (sideOf (t .side)) m p
-    mid-row r =
-        desk-room {k = m} (mid .desk) (x .size) (sideOf (t .side)) p mid-lengths
-        (ap (noRow (x .size .prices) p) mid-own ∙ (sym (x .crowded-is) ∙ tested .row r))
-
-    pub settle-asks : CanSettle rests t m
-    settle-asks = record { tidy = mid .desk; place = mid-place; row = mid-row }
-
-    -- and what comes of it once the remainder has rested or lapsed, and the statistics have the fills
-    module _ {k′ : Stock} (sd : Settles rests t (s .left .0) (readBook m) k′)
-        (mr : length (k′ .records) ≡ length (m .records)) (mb : length (k′ .bids) ≡ length (m .bids))
-        (ma : length (k′ .asks) ≡ length (m .asks)) (ms : length (k′ .search) ≡ length (m .search))
-        {y : Totals} (ey : y ≡ totalsBy t s) (new : Statistics)
-        (en : statisticsOf new ≡ rule.traded (st .tracking) (y .quantity .sum) (y .worth .sum) (last .price .0) (last .qty .0) (statisticsOf st))
-        (e : OrderEvent) (ee : eventOf e ≡ eventBy t (s .fills) (s .left .0) (filled t s)) where
-      abbrev dk : rule.Desk (Unit {0})
-      dk = readDesk k st
-
-      mid-traded : readBook m ≡ traded n t (readBook k) st
-      mid-traded = mid .book ∙ book-other (sideOf (t .side)) (o .left) (own (sideOf (t .side)) (readBook k))
-
-      record Ends : Type 0 where
-        tidy : Tidy k′
-        book : readBook k′ ≡ (carried dk u) .desk .book
-
-      ends : Ends
-      ends = go rests refl
-        where
-          go : (r : Bool) → rests ≡ r → Ends
-          go true r =
-              let l = sd .stands r in
-              let h : remains (t .any) (o .rest) ≡ true = ap (remains (t .any)) (sym rest-is) ∙ (sym (x .rests-is) ∙ r) in
-              record {
-                tidy = l .desk;
-                book = l .book
-                    ∙ (ap (λ (q : ℕ). restIn (sideOf (t .side)) (t .id .0) q p (readBook m)) rest-is
-                    ∙ (ap (restIn (sideOf (t .side)) (t .id .0) (o .rest) p) mid-traded ∙ sym (carried-rests n t (readBook k) st h)));
-              }
-          go false r =
-              let l = sd .lapses r in
-              let h : remains (t .any) (o .rest) ≡ false = ap (remains (t .any)) (sym rest-is) ∙ (sym (x .rests-is) ∙ r) in
-              record { tidy = l .desk; book = l .book ∙ (mid-traded ∙ sym (carried-lapses n t (readBook k) st h)) }
-
-      stats-is : statisticsOf new ≡ (carried dk u) .desk .stats
-      unfolding carried
-      stats-is =
-          en ∙ (ap (λ (v : Totals). rule.traded (st .tracking) (v .quantity .sum) (v .worth .sum) (last .price .0) (last .qty .0) (statisticsOf st)) (totals-is ey)
-          ∙ traded-after st (o .fills) no-sum (last .price .0) (last .qty .0) (sym (tr .price n)) (sym (tr .quantity n)))
-
-      answer-is : (carried dk u) .answer ≡ rule.done (eventOf e) (o .fills)
-      unfolding carried
-      answer-is =
-          ap (λ (v : rule.Event). rule.done v (o .fills))
-          (event-is n t makers ∙ sym (ee ∙ ap (λ (v : Outlook). eventBy t (v .fills) (v .left .0) (filled t v)) (told n)))
-
-      pub carries : Fulfils t k st out (Done e) k′ new out′
-      carries = record { performs = performs }
-        where
-          performs : (z : rule.Size) → Sound z k → refusal z dk u ≡ none → Performs (Sound z) z (rule.order u) k st out (Done e) k′ new out′
-          performs z w ne =
-              let q : perform z dk (rule.order u) ≡ carried dk u = performs-carried z dk u ne in
-              let b : readBook k′ ≡ (perform z dk (rule.order u)) .desk .book = ends .book ∙ sym (ap (λ (r : rule.Result (Unit {0})). r .desk .book) q) in
-              let m : statisticsOf new ≡ (perform z dk (rule.order u)) .desk .stats = stats-is ∙ sym (ap (λ (r : rule.Result (Unit {0})). r .desk .stats) q) in
-              perf.carried (eventOf e) (o .fills) (ap (λ (r : rule.Result (Unit {0})). r .answer) q ∙ answer-is) refl
-              (λ i. record { book = b i; stats = m i })
-              (record {
-                lengths = lengths-stay (mr ∙ lr) (mb ∙ lb) (ma ∙ la) (ms ∙ ls) (w .lengths);
-                tidy = ends .tidy;
-                orderly = subst (WholeBook z) (sym b) (whole-book-after z dk (rule.order u) (w .orderly));
-              })
-              (tr .fills n)
-
 -- ## refused or not
 
-module _ {z : rule.Size} {k : Stock} (w : Sound z k) (room : ℕ) (t : Taker) (s : Outlook) (st : Statistics) (h : Foretells t (k .book) (k .records) (k .bids) (k .asks) s)
-    {r f c : Bool} (er : r ≡ remains (t .any) (s .left .0)) (ef : f ≡ leb (z .orders) (k .book .resting)) (ec : c ≡ noRow (z .prices) (t .limit .0) (own (sideOf (t .side)) (readBook k))) where
+number-some : (o : Option ℕ) (n : ℕ) → n ≡ refusalNumber o → (n ≡ 0 → ⊥) → o ≡ some n
+number-some none n e h = absurd (h e)
+number-some (some m) n e h = rw e
+
+-- a decision that gives no number refuses nothing
+decided-none : (places : ℕ) (t : Taker) (s : Outlook) (st : Statistics) (r f c : Bool)
+    → refusalNumber (decided places t s st r f c) ≡ 0 → decided places t s st r f c ≡ none
+unfolding decided firstOf
+decided-none places t s st r f c = go (ltb places (s .fills)) (passes t s st) (r && f) (r && c)
+  where
+    two : (n : ℕ) → refusalNumber (some (suc n)) ≡ 0 → some (suc n) ≡ none
+    two n e = absurd (let x : ⊥ = omega arith in x)
+
+    go : (a b d e : Bool) → refusalNumber (firstOf ((2, a) ∷ (3, b) ∷ (4, d) ∷ (5, e) ∷ [])) ≡ 0 → firstOf ((2, a) ∷ (3, b) ∷ (4, d) ∷ (5, e) ∷ []) ≡ none
+    go true b d e h = two 1 h
+    go false true d e h = two 2 h
+    go false false true e h = two 3 h
+    go false false false true h = two 4 h
+    go false false false false h = refl
+
+performs-refused : (z : rule.Size) (d : rule.Desk (Unit {0})) (t : rule.Taker (Unit {0})) (n : ℕ) → refusal z d t ≡ some n
+    → perform z d (rule.order t) ≡ record { desk = d; answer = rule.Answer.refused n }
+unfolding perform
+performs-refused z d t n e = rw e
+
+performs-carried : (z : rule.Size) (d : rule.Desk (Unit {0})) (t : rule.Taker (Unit {0})) → refusal z d t ≡ none → perform z d (rule.order t) ≡ carried d t
+unfolding perform
+performs-carried z d t e = rw e
+
+module _ {z : rule.Size} {k : Stock} (w : Sound z k) (room : ℕ) (t : Taker) (s : Outlook) (st : Statistics)
+    (h : Foretells t (k .book) (k .records) (k .bids) (k .asks) s)
+    {r f c : Bool} (er : r ≡ remains (t .any) (s .left .0)) (ef : f ≡ leb (z .orders) (k .book .resting))
+    (ec : c ≡ noRow (z .prices) (t .limit .0) (own (sideOf (t .side)) (readBook k))) where
   -- the rules' refusal is what is decided from the outlook
   pub judged : refusal z (readDesk k st) (takerOf room t) ≡ decided room t s st r f c
   judged =
@@ -270,7 +97,10 @@ module _ {z : rule.Size} {k : Stock} (w : Sound z k) (room : ℕ) (t : Taker) (s
 
     pub order-refused : (m ≡ 0 → ⊥) → (out : List ℕ) → Performs (Sound z) z (rule.order (takerOf room t)) k st out (Refused m) k st out
     order-refused ne out =
-        perf.refused m (ap (λ (q : rule.Result (Unit {0})). q .answer) (performs-refused z (readDesk k st) (takerOf room t) m (judged ∙ number-some (decided room t s st r f c) m em ne))) refl refl refl refl
+        perf.refused m
+        (ap (λ (q : rule.Result (Unit {0})). q .answer)
+        (performs-refused z (readDesk k st) (takerOf room t) m (judged ∙ number-some (decided room t s st r f c) m em ne)))
+        refl refl refl refl
 
     none-decided : m ≡ 0 → decided room t s st r f c ≡ none
     none-decided e = decided-none room t s st r f c (sym em ∙ e)
@@ -278,9 +108,11 @@ module _ {z : rule.Size} {k : Stock} (w : Sound z k) (room : ℕ) (t : Taker) (s
     pub order-none : m ≡ 0 → refusal z (readDesk k st) (takerOf room t) ≡ none
     order-none e = judged ∙ none-decided e
 
-pub order-accepted : {z : rule.Size} {k : Stock} (w : Sound z k) (out : List ℕ) (t : Taker) (s : Outlook) (st : Statistics) → Foretells t (k .book) (k .records) (k .bids) (k .asks) s
+pub order-accepted : {z : rule.Size} {k : Stock} (w : Sound z k) (out : List ℕ) (t : Taker) (s : Outlook) (st : Statistics)
+    → Foretells t (k .book) (k .records) (k .bids) (k .asks) s
     → {r c : Bool} → r ≡ remains (t .any) (s .left .0) → c ≡ noRow (z .prices) (t .limit .0) (own (sideOf (t .side)) (readBook k))
-    → {q : ℕ} → q ≡ places fillRow out → {m : ℕ} → m ≡ refusalNumber (decided q t s st r (leb (z .orders) (k .book .resting)) c) → m ≡ 0 → Accepted t s r k st out
+    → {q : ℕ} → q ≡ places fillRow out → {m : ℕ} → m ≡ refusalNumber (decided q t s st r (leb (z .orders) (k .book .resting)) c) → m ≡ 0
+    → Accepted t s r k st out
 order-accepted {z} {k} w out t s st h {r} {c} er ec {q} eq {m} en e = record {
   size = z;
   crowded = c;
@@ -292,10 +124,31 @@ order-accepted {z} {k} w out t s st h {r} {c} er ec {q} eq {m} en e = record {
       (sym (en ∙ ap (λ (v : ℕ). refusalNumber (decided v t s st r (leb (z .orders) (k .book .resting)) c)) eq) ∙ e);
 }
 
+-- an order that the rules don't refuse, once it is carried out
+pub order-done : {z : rule.Size} {k : Stock} → Sound z k → (t : Taker) (st : Statistics) (out : List ℕ)
+    → refusal z (readDesk k st) (takerOf (places fillRow out) t) ≡ none
+    → {e : OrderEvent} {k′ : Stock} {st′ : Statistics} {out′ : List ℕ} → Fulfils t k st out e k′ st′ out′
+    → length (k′ .records) ≡ length (k .records) → length (k′ .bids) ≡ length (k .bids)
+    → length (k′ .asks) ≡ length (k .asks) → length (k′ .search) ≡ length (k .search)
+    → Performs (Sound z) z (rule.order (takerOf (places fillRow out) t)) k st out (Done e) k′ st′ out′
+order-done {z} {k} w t st out ne {e} {k′} {st′} f lr lb la ls =
+    let u : rule.Taker (Unit {0}) = takerOf (places fillRow out) t in
+    let q : perform z (readDesk k st) (rule.order u) ≡ carried (readDesk k st) u = performs-carried z (readDesk k st) u ne in
+    let d : readDesk k′ st′ ≡ (perform z (readDesk k st) (rule.order u)) .desk = f .desk ∙ sym (ap (λ (r : rule.Result (Unit {0})). r .desk) q) in
+    let b : readBook k′ ≡ (perform z (readDesk k st) (rule.order u)) .desk .book = ap (λ (v : rule.Desk (Unit {0})). v .book) d in
+    perf.carried (eventOf e) (f .fills) (ap (λ (r : rule.Result (Unit {0})). r .answer) q ∙ f .answer) refl d
+    (record {
+      lengths = lengths-stay lr lb la ls (w .lengths);
+      tidy = f .tidy;
+      orderly = subst (WholeBook z) (sym b) (whole-book-after z (readDesk k st) (rule.order u) (w .orderly));
+    })
+    (f .rows)
+
 -- no more is left than was wanted
 pub outlook-left : (t : Taker) (b : OrderBook) (rs bd ak : List ℕ) (s : Outlook) → Foretells t b rs bd ak s → s .left .0 ≤ t .qty .0
 outlook-left t b rs bd ak s h =
-    subst (λ (v : Outlook). v .left .0 ≤ t .qty .0) (sym (h 0 [])) (left-within 0 t (own (opposite (sideOf (t .side))) (storedBook rs bd ak [] (b .bids) (b .asks))))
+    subst (λ (v : Outlook). v .left .0 ≤ t .qty .0) (sym (h 0 []))
+    (left-within 0 t (own (opposite (sideOf (t .side))) (storedBook rs bd ak [] (b .bids) (b .asks))))
 
 -- a price without a row, of a sound stock
 pub crowds-here : {z : rule.Size} (k : Stock) → Sound z k → (t : Taker) {c : Bool} → CrowdsOn (z .prices) t (k .book) (k .bids) (k .asks) c

@@ -3,9 +3,9 @@ use Prim.Native.Nat.{ℕ}
 use mathlib.Core.Path.{_≡_}
 use mathlib.Core.List.{List, []}
 use Rattle.rules.specs.Rules as rule
-use Rattle.models.specs.declared.Statistics.{Statistics}
+use Rattle.stats.specs.declared.Statistics.{Statistics}
 use Rattle.models.specs.Readings.{eventOf}
-use Rattle.models.specs.Rows.{fillRow, written}
+use Rattle.rows.specs.Rows.{fillRow, written}
 use Rattle.ledger.specs.Stock.{Stock}
 use Rattle.desk.specs.declared.Answer.{Answer}
 use Rattle.desk.specs.declared.Answer.the-variants.{Refused, Done}

@@ -1,5 +1,6 @@
-// The desk of the base for C and Rust: every public call of `orderbook` as an exported function, and the check of a whole book at any size. A slice passes as a pointer and a length, the twelve numbers of
-// a desk and the four of an answer as pointers; each returns 0, or the number of the refusal, in which case nothing lent has changed. include/felavuti.h is the header.
+// The desk of the base for C and Rust: every public call of `orderbook` as an exported function, and the check of a whole book at any size. A slice passes as
+// a pointer and a length, the twelve numbers of a desk and the four of an answer as pointers; each returns 0, or the number of the refusal, in which case
+// nothing lent has changed. include/felavuti.h is the header.
 ghost use mathlib.Core.Path.{_≡_};
 ghost use mathlib.Core.List.{[]};
 ghost use mathlib.Core.Bool.{not};
@@ -8,21 +9,19 @@ ghost use lib.ListN.{set};
 ghost use Rattle.rules.specs.Rules as rule;
 ghost use Rattle.models.specs.declared.OrderType.the-variants.{Market, Limit};
 ghost use Rattle.models.specs.Readings.{callOf};
-ghost use Rattle.models.specs.Rows.{fillRow, places};
-ghost use Rattle.calls.specs.Calls.{lowestAsk, highestBid, spreadOf};
-ghost use Rattle.ffi.specs.Numbers.{yes};
-ghost use Rattle.ffi.specs.Exports.{Carried, Sided, Asked, Deepened, Sought, OpenedAs, Checked};
-use crate::numbers::ANSWER;
-use crate::numbers::DESK;
-use crate::numbers::TRACKING;
+ghost use Rattle.rows.specs.Rows.{fillRow, places};
+ghost use Rattle.questions.specs.Questions.{lowestAsk, highestBid, spreadOf};
+ghost use Rattle.numbers.specs.Numbers.{yes};
+ghost use Rattle.ffi.specs.Exports.{Carried, Ordered, Asked, Deepened, Sought, OpenedAs, Checked};
 use models::Id;
+use models::OrderType;
 use models::Price;
 use models::Quantity;
+use numbers::ANSWER;
+use numbers::DESK;
+use numbers::TRACKING;
+use numbers::outcome;
 use whole::Size;
-
-pub mod bits; // bits.rt: an average from its bit pattern
-pub mod numbers; // numbers.rt: the small values and the answers as numbers
-pub mod outcome; // outcome.rt: what a call returns and leaves
 
 // The larger number of a side, and the refusal of any above it.
 const ASK: u64 = 1;
@@ -49,6 +48,34 @@ pub extern "C" fn felavuti_fresh(
     o.code
 }
 
+// An order or a cancel on the numbers lent: read, carried out, and what it answers written back where it is accepted.
+fn execute_lent(
+    desk: &mut [u64; DESK],
+    records: &mut [u64],
+    bids: &mut [u64],
+    asks: &mut [u64],
+    search: &mut [u64],
+    fills: &mut [u64],
+    order: OrderType,
+    answer: &mut [u64; ANSWER],
+) -> u64
+    ensures { λ r. ⌜ Carried (callOf (places fillRow (now (fills .entry))) order)
+        (now (desk .entry)) (now (records .entry)) (now (bids .entry)) (now (asks .entry)) (now (search .entry)) (now (fills .entry)) (now (answer .entry))
+        r (now (desk .exit)) (now (records .exit)) (now (bids .exit)) (now (asks .exit)) (now (search .exit)) (now (fills .exit)) (now (answer .exit)) ⌝ }
+{
+    let lent = *desk;
+    let told = *answer;
+    let book = numbers::book_of(lent);
+    let statistics = numbers::statistics_of(lent);
+    let done = orderbook::execute(book, statistics, records, bids, asks, search, fills, order);
+    let o = outcome::executed(lent, told, done);
+    let after = o.desk;
+    let reply = o.answer;
+    *desk = after;
+    *answer = reply;
+    o.code
+}
+
 // A market order.
 #[no_mangle]
 pub extern "C" fn felavuti_market(
@@ -63,37 +90,20 @@ pub extern "C" fn felavuti_market(
     qty: u64,
     answer: &mut [u64; ANSWER],
 ) -> u64
-    ensures { λ r. ⌜ Sided side r ((now (desk .exit) ≡ now (desk .entry)) × (now (records .exit) ≡ now (records .entry)) × (now (bids .exit) ≡ now (bids .entry)) × (now (asks .exit) ≡ now (asks .entry))
-        × (now (search .exit) ≡ now (search .entry)) × (now (fills .exit) ≡ now (fills .entry)) × (now (answer .exit) ≡ now (answer .entry)))
-        (λ s. Carried (callOf (places fillRow (now (fills .entry))) (Market (record { 0 = id }) s (record { 0 = qty }))) (now (desk .entry)) (now (records .entry)) (now (bids .entry)) (now (asks .entry)) (now (search .entry)) (now (fills .entry)) (now (answer .entry)) r
-        (now (desk .exit)) (now (records .exit)) (now (bids .exit)) (now (asks .exit)) (now (search .exit)) (now (fills .exit)) (now (answer .exit))) ⌝ }
+    ensures { λ r. ⌜ Ordered (λ s. Market (record { 0 = id }) s (record { 0 = qty })) side
+        (now (desk .entry)) (now (records .entry)) (now (bids .entry)) (now (asks .entry)) (now (search .entry)) (now (fills .entry)) (now (answer .entry))
+        r (now (desk .exit)) (now (records .exit)) (now (bids .exit)) (now (asks .exit)) (now (search .exit)) (now (fills .exit)) (now (answer .exit)) ⌝ }
 {
     if ASK < side {
         return NO_SIDE;
     }
-    let lent = *desk;
-    let told = *answer;
-    let book = numbers::book_of(lent);
-    let statistics = numbers::statistics_of(lent);
     let taker = outcome::side_of(side);
-    let done = orderbook::market(
-        book,
-        statistics,
-        records,
-        bids,
-        asks,
-        search,
-        fills,
-        Id(id),
-        taker,
-        Quantity(qty),
-    );
-    let o = outcome::executed(lent, told, done);
-    let after = o.desk;
-    let numbers = o.answer;
-    *desk = after;
-    *answer = numbers;
-    o.code
+    let order = OrderType::Market {
+        id: Id(id),
+        side: taker,
+        qty: Quantity(qty),
+    };
+    execute_lent(desk, records, bids, asks, search, fills, order, answer)
 }
 
 // A limit order.
@@ -111,38 +121,21 @@ pub extern "C" fn felavuti_limit(
     price: u64,
     answer: &mut [u64; ANSWER],
 ) -> u64
-    ensures { λ r. ⌜ Sided side r ((now (desk .exit) ≡ now (desk .entry)) × (now (records .exit) ≡ now (records .entry)) × (now (bids .exit) ≡ now (bids .entry)) × (now (asks .exit) ≡ now (asks .entry))
-        × (now (search .exit) ≡ now (search .entry)) × (now (fills .exit) ≡ now (fills .entry)) × (now (answer .exit) ≡ now (answer .entry)))
-        (λ s. Carried (callOf (places fillRow (now (fills .entry))) (Limit (record { 0 = id }) s (record { 0 = qty }) (record { 0 = price }))) (now (desk .entry)) (now (records .entry)) (now (bids .entry)) (now (asks .entry)) (now (search .entry)) (now (fills .entry)) (now (answer .entry)) r
-        (now (desk .exit)) (now (records .exit)) (now (bids .exit)) (now (asks .exit)) (now (search .exit)) (now (fills .exit)) (now (answer .exit))) ⌝ }
+    ensures { λ r. ⌜ Ordered (λ s. Limit (record { 0 = id }) s (record { 0 = qty }) (record { 0 = price })) side
+        (now (desk .entry)) (now (records .entry)) (now (bids .entry)) (now (asks .entry)) (now (search .entry)) (now (fills .entry)) (now (answer .entry))
+        r (now (desk .exit)) (now (records .exit)) (now (bids .exit)) (now (asks .exit)) (now (search .exit)) (now (fills .exit)) (now (answer .exit)) ⌝ }
 {
     if ASK < side {
         return NO_SIDE;
     }
-    let lent = *desk;
-    let told = *answer;
-    let book = numbers::book_of(lent);
-    let statistics = numbers::statistics_of(lent);
     let taker = outcome::side_of(side);
-    let done = orderbook::limit(
-        book,
-        statistics,
-        records,
-        bids,
-        asks,
-        search,
-        fills,
-        Id(id),
-        taker,
-        Quantity(qty),
-        Price(price),
-    );
-    let o = outcome::executed(lent, told, done);
-    let after = o.desk;
-    let numbers = o.answer;
-    *desk = after;
-    *answer = numbers;
-    o.code
+    let order = OrderType::Limit {
+        id: Id(id),
+        side: taker,
+        qty: Quantity(qty),
+        price: Price(price),
+    };
+    execute_lent(desk, records, bids, asks, search, fills, order, answer)
 }
 
 // The order found under the id leaves, if there is one.
@@ -156,8 +149,9 @@ pub extern "C" fn felavuti_cancel(
     id: u64,
     answer: &mut [u64; ANSWER],
 ) -> u64
-    ensures { λ r. ⌜ Carried (rule.cancel id) (now (desk .entry)) (now (records .entry)) (now (bids .entry)) (now (asks .entry)) (now (search .entry)) [] (now (answer .entry)) r
-        (now (desk .exit)) (now (records .exit)) (now (bids .exit)) (now (asks .exit)) (now (search .exit)) [] (now (answer .exit)) ⌝ }
+    ensures { λ r. ⌜ Carried (rule.cancel id)
+        (now (desk .entry)) (now (records .entry)) (now (bids .entry)) (now (asks .entry)) (now (search .entry)) [] (now (answer .entry))
+        r (now (desk .exit)) (now (records .exit)) (now (bids .exit)) (now (asks .exit)) (now (search .exit)) [] (now (answer .exit)) ⌝ }
 {
     let lent = *desk;
     let told = *answer;
@@ -166,9 +160,9 @@ pub extern "C" fn felavuti_cancel(
     let done = orderbook::cancel(book, statistics, records, bids, asks, search, Id(id));
     let o = outcome::executed(lent, told, done);
     let after = o.desk;
-    let numbers = o.answer;
+    let reply = o.answer;
     *desk = after;
-    *answer = numbers;
+    *answer = reply;
     o.code
 }
 
@@ -182,14 +176,15 @@ pub extern "C" fn felavuti_min_ask(
     search: &[u64],
     answer: &mut [u64; ANSWER],
 ) -> u64
-    ensures { λ r. ⌜ Asked lowestAsk (now (desk .entry)) (now (records .entry)) (now (bids .entry)) (now (asks .entry)) (now (search .entry)) (now (answer .entry)) r (now (answer .exit)) ⌝ }
+    ensures { λ r. ⌜ Asked lowestAsk (now (desk .entry)) (now (records .entry)) (now (bids .entry)) (now (asks .entry)) (now (search .entry))
+        (now (answer .entry)) r (now (answer .exit)) ⌝ }
 {
     let told = *answer;
     let book = numbers::book_of(*desk);
     let asked = orderbook::min_ask(book, records, bids, asks, search);
     let o = outcome::quoted(told, asked);
-    let numbers = o.answer;
-    *answer = numbers;
+    let reply = o.answer;
+    *answer = reply;
     o.code
 }
 
@@ -203,14 +198,15 @@ pub extern "C" fn felavuti_max_bid(
     search: &[u64],
     answer: &mut [u64; ANSWER],
 ) -> u64
-    ensures { λ r. ⌜ Asked highestBid (now (desk .entry)) (now (records .entry)) (now (bids .entry)) (now (asks .entry)) (now (search .entry)) (now (answer .entry)) r (now (answer .exit)) ⌝ }
+    ensures { λ r. ⌜ Asked highestBid (now (desk .entry)) (now (records .entry)) (now (bids .entry)) (now (asks .entry)) (now (search .entry))
+        (now (answer .entry)) r (now (answer .exit)) ⌝ }
 {
     let told = *answer;
     let book = numbers::book_of(*desk);
     let asked = orderbook::max_bid(book, records, bids, asks, search);
     let o = outcome::quoted(told, asked);
-    let numbers = o.answer;
-    *answer = numbers;
+    let reply = o.answer;
+    *answer = reply;
     o.code
 }
 
@@ -224,14 +220,15 @@ pub extern "C" fn felavuti_spread(
     search: &[u64],
     answer: &mut [u64; ANSWER],
 ) -> u64
-    ensures { λ r. ⌜ Asked spreadOf (now (desk .entry)) (now (records .entry)) (now (bids .entry)) (now (asks .entry)) (now (search .entry)) (now (answer .entry)) r (now (answer .exit)) ⌝ }
+    ensures { λ r. ⌜ Asked spreadOf (now (desk .entry)) (now (records .entry)) (now (bids .entry)) (now (asks .entry)) (now (search .entry))
+        (now (answer .entry)) r (now (answer .exit)) ⌝ }
 {
     let told = *answer;
     let book = numbers::book_of(*desk);
     let asked = orderbook::spread(book, records, bids, asks, search);
     let o = outcome::quoted(told, asked);
-    let numbers = o.answer;
-    *answer = numbers;
+    let reply = o.answer;
+    *answer = reply;
     o.code
 }
 
@@ -247,14 +244,15 @@ pub extern "C" fn felavuti_depth(
     levels: usize,
     answer: &mut [u64; ANSWER],
 ) -> u64
-    ensures { λ r. ⌜ Deepened levels (now (desk .entry)) (now (records .entry)) (now (bids .entry)) (now (asks .entry)) (now (search .entry)) (now (out .entry)) (now (answer .entry)) r (now (out .exit)) (now (answer .exit)) ⌝ }
+    ensures { λ r. ⌜ Deepened levels (now (desk .entry)) (now (records .entry)) (now (bids .entry)) (now (asks .entry)) (now (search .entry))
+        (now (out .entry)) (now (answer .entry)) r (now (out .exit)) (now (answer .exit)) ⌝ }
 {
     let told = *answer;
     let book = numbers::book_of(*desk);
     let asked = orderbook::depth(book, records, bids, asks, search, levels, out);
     let o = outcome::deepened(told, asked);
-    let numbers = o.answer;
-    *answer = numbers;
+    let reply = o.answer;
+    *answer = reply;
     o.code
 }
 
@@ -269,14 +267,15 @@ pub extern "C" fn felavuti_get(
     id: u64,
     answer: &mut [u64; ANSWER],
 ) -> u64
-    ensures { λ r. ⌜ Sought id (now (desk .entry)) (now (records .entry)) (now (bids .entry)) (now (asks .entry)) (now (search .entry)) (now (answer .entry)) r (now (answer .exit)) ⌝ }
+    ensures { λ r. ⌜ Sought id (now (desk .entry)) (now (records .entry)) (now (bids .entry)) (now (asks .entry)) (now (search .entry))
+        (now (answer .entry)) r (now (answer .exit)) ⌝ }
 {
     let told = *answer;
     let book = numbers::book_of(*desk);
     let asked = orderbook::get(book, records, bids, asks, search, Id(id));
     let o = outcome::looked(told, asked);
-    let numbers = o.answer;
-    *answer = numbers;
+    let reply = o.answer;
+    *answer = reply;
     o.code
 }
 
@@ -291,13 +290,14 @@ pub extern "C" fn felavuti_check(
     asks: &[u64],
     search: &[u64],
 ) -> u64
-    ensures { λ r. ⌜ Checked (record { orders = orders; prices = prices }) (now (desk .entry)) (now (records .entry)) (now (bids .entry)) (now (asks .entry)) (now (search .entry)) r ⌝ }
+    ensures { λ r. ⌜ Checked (record { orders = orders; prices = prices })
+        (now (desk .entry)) (now (records .entry)) (now (bids .entry)) (now (asks .entry)) (now (search .entry)) r ⌝ }
 {
     let book = numbers::book_of(*desk);
     if whole::is_whole(Size { orders, prices }, book, records, bids, asks, search) {
         return outcome::ACCEPTED;
     }
-    calls::NOT_WHOLE
+    whole::NOT_WHOLE
 }
 
 // Switched tracking: no other number changes. Never refused.

@@ -1,15 +1,16 @@
-// Refusals that change nothing: an order or depth told, and for a refusal whether everything is as it was. After a refused order the book, the statistics with the last trade, every number of
-// the storage and the buffer are compared with what they were; after a refused depth its buffer (the rest is lent by shared reference, which can't change).
-use calls::Deep;
+// Refusals that change nothing: an order or depth told, and for a refusal whether everything is as it was. After a refused order the book, the
+// statistics with the last trade, every number of the storage and the buffer are compared with what they were; after a refused depth its buffer (the
+// rest is lent by shared reference, which can't change).
 use desk::Answer;
 use ledger::OrderBook;
-use models::LastTrade;
 use models::OrderType;
-use models::Statistics;
-use models::Trade;
-use models::bits::bits_of;
-use script::OwnDesk;
+use questions::Deep;
 use script::MARK;
+use script::OwnDesk;
+use stats::LastTrade;
+use stats::Statistics;
+use stats::Trade;
+use stats::bits::bits_of;
 use tell::line;
 use tell::number;
 use tell::put;

@@ -93,7 +93,8 @@ pub record CanJoin (rs lv se : List ℕ) (s c p : ℕ) : Type 0 where
   pub room : RoomFor lv s p
 
 pub record Joins (rs lv se : List ℕ) (s c id q p : ℕ) (rs′ lv′ se′ : List ℕ) (s′ f′ : ℕ) : Type 0 where
-  pub all : {n : ℕ} {ov : List ℕ} {t r : ℕ} {ws vs : List Lvl} {fr : List ℕ} → Ledger n rs lv ov se s t c r ws vs (c ∷ fr) → Ledger n rs′ lv′ ov se′ s′ t f′ (r + 1) (resting c p ws) vs fr
+  pub all : {n : ℕ} {ov : List ℕ} {t r : ℕ} {ws vs : List Lvl} {fr : List ℕ} → Ledger n rs lv ov se s t c r ws vs (c ∷ fr)
+      → Ledger n rs′ lv′ ov se′ s′ t f′ (r + 1) (resting c p ws) vs fr
   pub own : {n : ℕ} {ov : List ℕ} {t r : ℕ} {ws vs : List Lvl} {fr : List ℕ} → Ledger n rs lv ov se s t c r ws vs (c ∷ fr) → (sd : Side)
       → orders rs′ (found se′ rs′) (codes sd (resting c p ws)) ≡ rested sd id q p (orders rs (found se rs) (codes sd ws))
   pub other : {n : ℕ} {ov : List ℕ} {t r : ℕ} {ws vs : List Lvl} {fr : List ℕ} → Ledger n rs lv ov se s t c r ws vs (c ∷ fr) → (sd : Side)
@@ -111,7 +112,8 @@ pub record CanQuit (rs lv se : List ℕ) (s f c : ℕ) : Type 0 where
   pub inside : 1 ≤ times c (ups ws)
 
 pub record Quits (rs lv se : List ℕ) (s f c : ℕ) (rs′ lv′ se′ : List ℕ) (s′ f′ : ℕ) : Type 0 where
-  pub all : {n : ℕ} {ov : List ℕ} {t r : ℕ} {ws vs : List Lvl} {fr : List ℕ} → Ledger n rs lv ov se s t f r ws vs fr → 1 ≤ times c (ups ws) → Ledger n rs′ lv′ ov se′ s′ t f′ (r - 1) (without c ws) vs (c ∷ fr)
+  pub all : {n : ℕ} {ov : List ℕ} {t r : ℕ} {ws vs : List Lvl} {fr : List ℕ} → Ledger n rs lv ov se s t f r ws vs fr → 1 ≤ times c (ups ws)
+      → Ledger n rs′ lv′ ov se′ s′ t f′ (r - 1) (without c ws) vs (c ∷ fr)
   pub own : {n : ℕ} {ov : List ℕ} {t r : ℕ} {ws vs : List Lvl} {fr : List ℕ} → Ledger n rs lv ov se s t f r ws vs fr → 1 ≤ times c (ups ws) → (sd : Side)
       → orders rs′ (found se′ rs′) (codes sd (without c ws)) ≡ orders rs (found se rs) (cut c (codes sd ws))
   pub other : {n : ℕ} {ov : List ℕ} {t r : ℕ} {ws vs : List Lvl} {fr : List ℕ} → Ledger n rs lv ov se s t f r ws vs fr → 1 ≤ times c (ups ws) → (sd : Side)

@@ -32,8 +32,8 @@ pub const LISTS: u64 = 5;
 
 pub const LENGTH: u64 = 14;
 
-// What a list does next: a fresh book, with tracking on or off; the orders 1 to n, each at a price of its own or all at one; an order with so long a buffer; tracking switched; depth with
-// so long a buffer; or nothing more.
+// What a list does next: a fresh book, with tracking on or off; the orders 1 to n, each at a price of its own or all at one; an order with so long a
+// buffer; tracking switched; depth with so long a buffer; or nothing more.
 pub enum Next {
     Fresh(bool),
     Many(u64, bool),
@@ -105,7 +105,8 @@ fn room(i: u64) -> Next {
     }
 }
 
-// 3: a sum of 2^64 - 2 is recorded and 2^64 isn't; a volume of 2^64 - 1 is reached and not passed. The refused orders find a last trade that must stay. 2 comes first.
+// 3: a sum of 2^64 - 2 is recorded and 2^64 isn't; a volume of 2^64 - 1 is reached and not passed. The refused orders find a last trade that must stay.
+// 2 comes first.
 fn sums(i: u64) -> Next {
     match i {
         0 => Next::Fresh(true),

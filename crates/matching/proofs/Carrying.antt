@@ -6,7 +6,7 @@ use mathlib.Core.Path.{ap, _∙_, _≡_}
 use native.Mathlib.Omega.{arith}
 use Rattle.rules.specs.Rules.{outcome}
 use Rattle.records.specs.Rows.{RecordAt, field}
-use Rattle.models.specs.Rows.{fillRow, written}
+use Rattle.rows.specs.Rows.{fillRow, written}
 use Rattle.arena.specs.Times.{times}
 use Rattle.side.specs.Orders.{codes, orders}
 use Rattle.side.specs.Read.{levelsIn}

@@ -10,8 +10,8 @@ use Rattle.rules.specs.Rules.{Fill, Order, lastPrice, lastQuantity, matching}
 use Rattle.records.specs.Rows.{RecordAt, field, put}
 use Rattle.records.proofs.Rows.{field-record}
 use Rattle.models.specs.Readings.{sideOf}
-use Rattle.models.specs.Rows.{Place, fillRow, written}
-use Rattle.models.proofs.Places.{fill-faithful, written-length}
+use Rattle.rows.specs.Rows.{Place, fillRow, written}
+use Rattle.rows.proofs.Places.{fill-faithful, written-length}
 use Rattle.arena.specs.Times.{times}
 use Rattle.arena.proofs.Times.{one-self}
 use Rattle.side.specs.Orders.{orderAt, orders}

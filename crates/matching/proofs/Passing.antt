@@ -13,8 +13,8 @@ use Rattle.rules.proofs.Basics.{within-worse}
 use Rattle.rules.proofs.Match.{idle-beyond, idle-done}
 use Rattle.records.specs.Rows.{RecordAt, field}
 use Rattle.models.specs.Readings.{sideOf}
-use Rattle.models.specs.Rows.{Place, fillRow, places, written}
-use Rattle.models.proofs.Places.{fill-faithful, written-none, written-step}
+use Rattle.rows.specs.Rows.{Place, fillRow, places, written}
+use Rattle.rows.proofs.Places.{fill-faithful, written-none, written-step}
 use Rattle.arena.specs.Links.{headOf, link, priceOf, tailOf}
 use Rattle.arena.specs.Times.{times}
 use Rattle.arena.proofs.Once.{Ending}

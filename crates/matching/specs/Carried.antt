@@ -10,7 +10,7 @@ use Rattle.side.specs.Orders.{ordersIn}
 use Rattle.rules.specs.Rules.{Fill, lastPrice, lastQuantity, outcome}
 use Rattle.records.specs.Rows.{field, put}
 use Rattle.models.specs.Readings.{sideOf}
-use Rattle.models.specs.Rows.{fillRow, places, written}
+use Rattle.rows.specs.Rows.{fillRow, places, written}
 use Rattle.arena.specs.Times.{times}
 use Rattle.side.specs.Levels.{ups}
 use Rattle.side.specs.Read.{levelsIn}

@@ -1,4 +1,1 @@
 pub mod Readings
-pub mod Capped
-pub mod Places
-pub mod Recording

@@ -1,8 +1,5 @@
 -- The readings lose nothing: two models that read alike are the same. So a contract that gives an answer's reading determines the answer. Assumes nothing.
-use Prim.Native.Nat.{ℕ}
 use mathlib.Core.Path.{_≡_, refl, sym, ap, _∙_}
-use mathlib.Core.List.{List}
-use mathlib.Core.Option.{Option, none, some}
 use Rattle.rules.specs.Rules as rule
 use Rattle.models.specs.declared.Side.{Side}
 use Rattle.models.specs.declared.Side.the-variants.{Bid, Ask}
@@ -10,16 +7,10 @@ use Rattle.models.specs.declared.OrderEvent.{OrderEvent}
 use Rattle.models.specs.declared.OrderEvent.the-variants.{Unfilled, Placed, Canceled, PartiallyFilled, Filled}
 use Rattle.models.specs.declared.FillMetadata.{FillMetadata}
 use Rattle.models.specs.declared.BookLevel.{BookLevel}
-use Rattle.models.specs.declared.Trade.{Trade}
-use Rattle.models.specs.declared.LastTrade.{LastTrade}
-use Rattle.models.specs.declared.LastTrade.the-variants.{Absent, Present}
-use Rattle.models.specs.declared.Statistics.{Statistics}
-use Rattle.models.specs.declared.Recorded.{Recorded}
-use Rattle.models.specs.Readings.{sideOf, eventOf, fillOf, levelOf, lastOf, statisticsOf}
-use Rattle.models.specs.Statistics.{Follows}
+use Rattle.models.specs.Readings.{sideOf, eventOf, fillOf, levelOf}
 
 -- a way back from the readings shows it
-same : {A B : Type 0} (f : A → B) (g : B → A) → ((a : A) → g (f a) ≡ a) → (a b : A) → f a ≡ f b → a ≡ b
+pub same : {A B : Type 0} (f : A → B) (g : B → A) → ((a : A) → g (f a) ≡ a) → (a b : A) → f a ≡ f b → a ≡ b
 same f g back a b e = sym (back a) ∙ ap g e ∙ back b
 
 sideFrom : rule.Side → Side
@@ -79,42 +70,3 @@ levelFrom v = record { price = record { 0 = v .price }; qty = record { 0 = v .to
 pub level-same : (v w : BookLevel) → levelOf v ≡ levelOf w → v ≡ w
 unfolding levelFrom
 level-same = same levelOf levelFrom (λ v. refl)
-
-tradeFrom : rule.Trade → Trade
-tradeFrom t =
-    record {
-      «total_qty» = record { 0 = t .quantity };
-      «avg_price» = t .average;
-      «whole_avg_price» = record { 0 = t .wholeAverage };
-      «last_price» = record { 0 = t .lastPrice };
-      «last_qty» = record { 0 = t .lastQuantity };
-    }
-
-lastFrom : Option rule.Trade → LastTrade
-lastFrom none = Absent
-lastFrom (some t) = Present (tradeFrom t)
-
-last-back : (l : LastTrade) → lastFrom (lastOf l) ≡ l
-unfolding lastFrom tradeFrom
-last-back Absent = refl
-last-back (Present t) = refl
-
-statisticsFrom : rule.Stats → Statistics
-statisticsFrom s = record { tracking = s .tracking; volume = record { 0 = s .volume }; last = lastFrom (s .last) }
-
-statistics-back : (s : Statistics) → statisticsFrom (statisticsOf s) ≡ s
-unfolding statisticsFrom
-statistics-back s = ap (λ (l : LastTrade). record { tracking = s .tracking; volume = s .volume; last = l }) (last-back (s .last))
-
-pub statistics-same : (s t : Statistics) → statisticsOf s ≡ statisticsOf t → s ≡ t
-statistics-same = same statisticsOf statisticsFrom statistics-back
-
--- the statistics and a list of fills leave room for one outcome alone
-pub follows-same : (st : Statistics) (l : List (rule.Fill (Unit {0}))) (r s : Recorded) → Follows st l r → Follows st l s → r ≡ s
-follows-same st l r s p q =
-    let c : r .code ≡ s .code = p .code ∙ sym (q .code) in
-    let e : r .statistics ≡ s .statistics = statistics-same (r .statistics) (s .statistics) (p .statistics ∙ sym (q .statistics)) in
-    both c e
-  where
-    both : {c d : ℕ} {a b : Statistics} → c ≡ d → a ≡ b → _≡_ {A = Recorded} (record { code = c; statistics = a }) (record { code = d; statistics = b })
-    both c e = cc

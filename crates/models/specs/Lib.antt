@@ -1,4 +1,1 @@
 pub mod Readings
-pub mod Rows
-pub mod Sums
-pub mod Statistics

@@ -1,7 +1,6 @@
 -- What each model means: the rule book's value of it, case by case. The contracts say what they say through these readings.
 -- A fill or an order carries no tag (the unit type), as in all contracts. Assumes nothing.
 use Prim.Native.Nat.{ℕ}
-use mathlib.Core.Option.{Option, none, some}
 use Rattle.rules.specs.Rules as rule
 use Rattle.models.specs.declared.Side.{Side}
 use Rattle.models.specs.declared.Side.the-variants.{Bid, Ask}
@@ -11,10 +10,6 @@ use Rattle.models.specs.declared.OrderEvent.{OrderEvent}
 use Rattle.models.specs.declared.OrderEvent.the-variants.{Unfilled, Placed, Canceled, PartiallyFilled, Filled}
 use Rattle.models.specs.declared.FillMetadata.{FillMetadata}
 use Rattle.models.specs.declared.BookLevel.{BookLevel}
-use Rattle.models.specs.declared.Trade.{Trade}
-use Rattle.models.specs.declared.LastTrade.{LastTrade}
-use Rattle.models.specs.declared.LastTrade.the-variants.{Absent, Present}
-use Rattle.models.specs.declared.Statistics.{Statistics}
 
 abbrev pub sideOf : Side → rule.Side
 sideOf Bid = rule.bid
@@ -50,19 +45,7 @@ fillOf f =
 abbrev pub levelOf : BookLevel → rule.Level
 levelOf v = record { price = v .price .0; total = v .qty .0 }
 
-abbrev pub tradeOf : Trade → rule.Trade
-tradeOf t =
-    record {
-      quantity = t .«total_qty» .0;
-      average = t .«avg_price»;
-      wholeAverage = t .«whole_avg_price» .0;
-      lastPrice = t .«last_price» .0;
-      lastQuantity = t .«last_qty» .0;
-    }
-
-abbrev pub lastOf : LastTrade → Option rule.Trade
-lastOf Absent = none
-lastOf (Present t) = some (tradeOf t)
-
-abbrev pub statisticsOf : Statistics → rule.Stats
-statisticsOf s = record { tracking = s .tracking; volume = s .volume .0; last = lastOf (s .last) }
+-- what a call says, where its answer is an enum of its own: document 01's number of a refusal, or the call's values
+pub data Reading (X : Type 0) : Type 0 where
+  number : ℕ → Reading X
+  value : X → Reading X

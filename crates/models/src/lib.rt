@@ -1,14 +1,8 @@
-// Lobster's models as values, under lobster's names (lobster 0.7.0, src/models.rs): sides, orders, events, fills, levels, trades, statistics.
-// What each means in the rule book's terms is said in specs/Readings.antt. Here are the types; what is done with them is in the files below.
+// Lobster's models as values, under lobster's names (lobster 0.7.0, src/models.rs): sides, orders, events, fills, levels.
+// What each means in the rule book's terms is said in specs/Readings.antt. Trades and statistics are in crate stats.
 ghost use mathlib.Core.Path.{_≡_};
 ghost use Rattle.rules.specs.Rules as rule;
 ghost use Rattle.models.specs.Readings.{sideOf};
-
-pub mod bits; // bits.rt: an average as its bit pattern
-pub mod door; // door.rt: the statistics by loan
-pub mod rows; // rows.rt: fills and levels as rows of numbers in a lent slice
-pub mod stats; // stats.rt: the statistics after fills
-pub mod sums; // sums.rt: exact products and sums without a wider number
 
 // A price, a quantity and an id are three kinds of number: one can't be given in another's place.
 pub struct Id(pub u64);
@@ -95,29 +89,4 @@ pub struct BookDepth {
     pub levels: usize,
     pub asks: usize,
     pub bids: usize,
-}
-
-pub struct Trade {
-    pub total_qty: Quantity,
-    pub avg_price: f64,
-    pub whole_avg_price: Price,
-    pub last_price: Price,
-    pub last_qty: Quantity,
-}
-
-pub enum LastTrade {
-    Absent,
-    Present(Trade),
-}
-
-pub struct Statistics {
-    pub tracking: bool,
-    pub volume: Quantity,
-    pub last: LastTrade,
-}
-
-// What the statistics make of a list of fills: 0 with the new ones, or the number of the refusal with the old ones.
-pub struct Recorded {
-    pub code: u64,
-    pub statistics: Statistics,
 }

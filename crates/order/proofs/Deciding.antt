@@ -5,9 +5,9 @@ use mathlib.Core.Bool.{Bool, true, false, not}
 use borrow.Author.Tests.{lt-ltb, le-ltb}
 use Rattle.rules.specs.Rules as rule
 use Rattle.rules.specs.Rules.{firstOf}
-use Rattle.models.specs.declared.Statistics.{Statistics}
-use Rattle.models.specs.declared.stats.Totals.{Totals}
-use Rattle.models.specs.Statistics.{overOf}
+use Rattle.stats.specs.declared.Statistics.{Statistics}
+use Rattle.stats.specs.declared.Totals.{Totals}
+use Rattle.stats.specs.Statistics.{overOf}
 use Rattle.survey.specs.declared.Taker.{Taker}
 use Rattle.survey.specs.declared.Outlook.{Outlook}
 use Rattle.order.specs.Decided.{refusalNumber, filled, remains, totalsBy, passes, decided, nothingFilled, eventBy}

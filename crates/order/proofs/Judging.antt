@@ -9,10 +9,10 @@ use lib.ListN.{length}
 use Rattle.rules.specs.Rules as rule
 use Rattle.rules.specs.Rules.{Order, Fill, Outcome, Book, Size, outcome, refusal, checks, tooLarge, total, full, crowded, occupied, levels, own, standing, event}
 use Rattle.rules.proofs.Turns.{outcome-gains}
-use Rattle.models.specs.declared.Statistics.{Statistics}
-use Rattle.models.specs.Readings.{statisticsOf, sideOf}
-use Rattle.models.specs.Statistics.{overOf, totalsOf}
-use Rattle.models.proofs.Recording.{too-large-is}
+use Rattle.stats.specs.declared.Statistics.{Statistics}
+use Rattle.models.specs.Readings.{sideOf}
+use Rattle.stats.specs.Statistics.{statisticsOf, overOf, totalsOf}
+use Rattle.stats.proofs.Recording.{too-large-is}
 use Rattle.survey.specs.declared.Taker.{Taker}
 use Rattle.survey.specs.Taker.{takerOf, kindOf}
 use Rattle.survey.specs.Surveyed.{surveyed}

@@ -5,10 +5,10 @@ use mathlib.Core.List.{[], _∷_}
 use mathlib.Core.Option.{Option, none, some}
 use lib.Dec.{ltb}
 use Rattle.rules.specs.Rules as rule
-use Rattle.models.specs.declared.Statistics.{Statistics}
-use Rattle.models.specs.declared.stats.Totals.{Totals}
-use Rattle.models.specs.Statistics.{overOf}
-use Rattle.models.specs.Sums.{capped}
+use Rattle.stats.specs.declared.Statistics.{Statistics}
+use Rattle.stats.specs.declared.Totals.{Totals}
+use Rattle.stats.specs.Statistics.{overOf}
+use Rattle.sums.specs.Sums.{capped}
 use Rattle.survey.specs.declared.Taker.{Taker}
 use Rattle.survey.specs.declared.Outlook.{Outlook}
 

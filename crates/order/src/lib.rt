@@ -5,9 +5,9 @@ ghost use Rattle.models.specs.Readings.{eventOf};
 ghost use Rattle.order.specs.Decided.{refusalNumber, filled, remains, totalsBy, decided, eventBy};
 use models::OrderEvent;
 use models::Quantity;
-use models::Statistics;
-use models::stats::Totals;
-use models::sums::exact;
+use stats::Statistics;
+use stats::Totals;
+use sums::exact;
 use survey::Outlook;
 use survey::Taker;
 

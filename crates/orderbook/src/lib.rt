@@ -1,16 +1,15 @@
 // The desk of the base: lobster's order book over storage for 1,024 resting orders and 128 prices a side, as public calls that demand nothing of the caller.
-// Each is the call of the same name in `calls`, at this one size; a market and a limit order are `execute` of it. Storage is lent: RECORDS numbers for the orders, LEVELS for the prices of each side, PLACES for the search.
+// Each is the call of the same name in `calls` or `questions`, at this one size; a market and a limit order are `execute` of it.
+// Storage is lent: RECORDS numbers for the orders, LEVELS for the prices of each side, PLACES for the search.
 ghost use mathlib.Core.List.{[]};
 ghost use Rattle.rules.specs.Rules as rule;
 ghost use Rattle.models.specs.declared.OrderType.the-variants.{Market, Limit};
 ghost use Rattle.models.specs.Readings.{callOf};
-ghost use Rattle.models.specs.Rows.{fillRow, places};
+ghost use Rattle.rows.specs.Rows.{fillRow, places};
 ghost use Rattle.ledger.specs.Stock.{stock};
-ghost use Rattle.calls.specs.Calls.{Executes, Tells, lowestAsk, highestBid, spreadOf, Shows, Finds, Makes};
-use calls::Deep;
-use calls::Got;
+ghost use Rattle.calls.specs.Calls.{Executes, Makes};
+ghost use Rattle.questions.specs.Questions.{Tells, lowestAsk, highestBid, spreadOf, Shows, Finds};
 use calls::Opening;
-use calls::Quoted;
 use desk::Executed;
 use ledger::OrderBook;
 use models::Id;
@@ -18,7 +17,10 @@ use models::OrderType;
 use models::Price;
 use models::Quantity;
 use models::Side;
-use models::Statistics;
+use questions::Deep;
+use questions::Got;
+use questions::Quoted;
+use stats::Statistics;
 use whole::Size;
 
 // How many orders may rest, and how many prices a side may have.
@@ -149,7 +151,7 @@ pub fn min_ask(
 ) -> Quoted
     ensures { λ r. ⌜ Tells rule.hall lowestAsk (stock book (now (records .entry)) (now (bids .entry)) (now (asks .entry)) (now (search .entry))) r ⌝ }
 {
-    calls::min_ask(SIZE, book, records, bids, asks, search)
+    questions::min_ask(SIZE, book, records, bids, asks, search)
 }
 
 // The highest bid.
@@ -162,7 +164,7 @@ pub fn max_bid(
 ) -> Quoted
     ensures { λ r. ⌜ Tells rule.hall highestBid (stock book (now (records .entry)) (now (bids .entry)) (now (asks .entry)) (now (search .entry))) r ⌝ }
 {
-    calls::max_bid(SIZE, book, records, bids, asks, search)
+    questions::max_bid(SIZE, book, records, bids, asks, search)
 }
 
 // The lowest ask less the highest bid, where both are there.
@@ -175,7 +177,7 @@ pub fn spread(
 ) -> Quoted
     ensures { λ r. ⌜ Tells rule.hall spreadOf (stock book (now (records .entry)) (now (bids .entry)) (now (asks .entry)) (now (search .entry))) r ⌝ }
 {
-    calls::spread(SIZE, book, records, bids, asks, search)
+    questions::spread(SIZE, book, records, bids, asks, search)
 }
 
 // Every occupied price with its total: asks from the start of `out`, then bids, both ascending. `levels` is echoed.
@@ -188,9 +190,10 @@ pub fn depth(
     levels: usize,
     out: &mut [u64],
 ) -> Deep
-    ensures { λ r. ⌜ Shows rule.hall levels (stock book (now (records .entry)) (now (bids .entry)) (now (asks .entry)) (now (search .entry))) (now (out .entry)) r (now (out .exit)) ⌝ }
+    ensures { λ r. ⌜ Shows rule.hall levels (stock book (now (records .entry)) (now (bids .entry)) (now (asks .entry)) (now (search .entry)))
+        (now (out .entry)) r (now (out .exit)) ⌝ }
 {
-    calls::depth(SIZE, book, records, bids, asks, search, levels, out)
+    questions::depth(SIZE, book, records, bids, asks, search, levels, out)
 }
 
 // The order that the search finds under the id, with the number of places that it looked at.
@@ -204,5 +207,5 @@ pub fn get(
 ) -> Got
     ensures { λ r. ⌜ Finds rule.hall (id .0) (stock book (now (records .entry)) (now (bids .entry)) (now (asks .entry)) (now (search .entry))) r ⌝ }
 {
-    calls::get(SIZE, book, records, bids, asks, search, id)
+    questions::get(SIZE, book, records, bids, asks, search, id)
 }

@@ -15,15 +15,17 @@ use Rattle.depth.specs.Answers.{quoteOf, foundOf}
 use Rattle.desk.specs.declared.Answer.{Answer}
 use Rattle.desk.specs.declared.Answer.the-variants.{Refused, Done}
 use Rattle.desk.specs.Performs.{answerOf}
-use Rattle.calls.specs.declared.Quoted.{Quoted}
-use Rattle.calls.specs.declared.Quoted.the-variants as quoted
-use Rattle.calls.specs.declared.Deep.{Deep}
-use Rattle.calls.specs.declared.Deep.the-variants as deep
-use Rattle.calls.specs.declared.Got.{Got}
-use Rattle.calls.specs.declared.Got.the-variants as got
+use Rattle.questions.specs.declared.Quoted.{Quoted}
+use Rattle.questions.specs.declared.Quoted.the-variants as quoted
+use Rattle.questions.specs.declared.Deep.{Deep}
+use Rattle.questions.specs.declared.Deep.the-variants as deep
+use Rattle.questions.specs.declared.Got.{Got}
+use Rattle.questions.specs.declared.Got.the-variants as got
 use Rattle.calls.specs.declared.Opening.{Opening}
 use Rattle.calls.specs.declared.Opening.the-variants as new
-use Rattle.calls.specs.Answers.{Reading, number, value, quotedOf, deepOf, gotOf, openingOf}
+use Rattle.models.specs.Readings.{Reading, number, value}
+use Rattle.questions.specs.Answers.{quotedOf, deepOf, gotOf}
+use Rattle.calls.specs.Calls.{openingOf}
 
 -- a way back from the readings shows it; from a `Reading`, by its two cases
 fromReading : {A X : Type 0} → (ℕ → A) → (X → A) → Reading X → A

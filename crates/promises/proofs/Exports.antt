@@ -12,8 +12,8 @@ use Rattle.rules.specs.Rules as rule
 use Rattle.models.specs.declared.OrderEvent.{OrderEvent}
 use Rattle.models.specs.declared.OrderType.{OrderType}
 use Rattle.models.specs.declared.Side.{Side}
-use Rattle.models.specs.declared.Statistics.{Statistics}
-use Rattle.models.specs.Readings.{lastOf, statisticsOf}
+use Rattle.stats.specs.declared.Statistics.{Statistics}
+use Rattle.stats.specs.Statistics.{lastOf, statisticsOf}
 use Rattle.ledger.specs.declared.OrderBook.{OrderBook}
 use Rattle.desk.specs.declared.Answer.{Answer}
 use Rattle.desk.specs.declared.Answer.the-variants.{Refused, Done}
@@ -21,24 +21,26 @@ use Rattle.ledger.specs.Stock.{Stock, stock}
 use Rattle.desk.specs.Stock.{readDesk}
 use Rattle.desk.specs.Performs.{answerOf}
 use Rattle.desk.specs.Performs as perf
-use Rattle.calls.specs.declared.Quoted.{Quoted}
-use Rattle.calls.specs.declared.Quoted.the-variants as quoted
-use Rattle.calls.specs.declared.Deep.{Deep}
-use Rattle.calls.specs.declared.Deep.the-variants as deep
-use Rattle.calls.specs.declared.Got.{Got}
-use Rattle.calls.specs.declared.Got.the-variants as got
+use Rattle.questions.specs.declared.Quoted.{Quoted}
+use Rattle.questions.specs.declared.Quoted.the-variants as quoted
+use Rattle.questions.specs.declared.Deep.{Deep}
+use Rattle.questions.specs.declared.Deep.the-variants as deep
+use Rattle.questions.specs.declared.Got.{Got}
+use Rattle.questions.specs.declared.Got.the-variants as got
 use Rattle.calls.specs.declared.Opening.{Opening}
-use Rattle.calls.specs.Answers.{Reading, number, value, openingOf}
+use Rattle.models.specs.Readings.{Reading, number, value}
+use Rattle.calls.specs.Calls.{openingOf, Executes, Makes}
 use Rattle.whole.specs.Whole.{WholeStock}
-use Rattle.calls.specs.Calls.{Executes, Makes}
 use Rattle.calls.specs.Calls as call
-use Rattle.ffi.specs.Numbers.{bookIn, statisticsIn, yes, numbersOf, eventNumbers, quoteNumbers, depthNumbers, lookNumbers}
-use Rattle.ffi.specs.Exports.{Reported, Carried, Quotes, Asked, Depths, Deepened, LookReported, Sought, Opens, OpenedAs, Checked}
+use Rattle.numbers.specs.Numbers.{bookIn, statisticsIn, yes, numbersOf, eventNumbers, quoteNumbers, depthNumbers, lookNumbers}
+use Rattle.numbers.specs.Reports.{Reported, Quotes, Depths, LookReported, Opens}
+use Rattle.numbers.specs.Reports as report
+use Rattle.ffi.specs.Exports.{Carried, Ordered, Asked, Deepened, Sought, OpenedAs, Checked}
 use Rattle.ffi.specs.Exports as ffi
 use Rattle.promises.specs.Outcomes.{SameDesk, AgreeFresh, neither, both}
 use Rattle.promises.specs.History.{Reached}
 use Rattle.promises.specs.History as history
-use Rattle.promises.specs.Exports.{deskAt, butFree, HasDouble, SameNumbers, AgreeCarried, Ordered, Exported, begun, called, switched}
+use Rattle.promises.specs.Exports.{deskAt, butFree, HasDouble, SameNumbers, AgreeCarried, Exported, begun, called, switched}
 use Rattle.promises.proofs.Outcomes.{one-outcome, tells-once, shows-once, finds-once, makes-once}
 use Rattle.promises.proofs.History.{reached-whole, reached-desk}
 use Rattle.promises.proofs.Numbers.{numbers-statistics, numbers-long, double-in, double-after, tracks}
@@ -73,18 +75,18 @@ module _ {c : rule.Call (Unit {0})} {d rs bd ak se out an d′ rs′ bd′ ak′
   carried-reads x = go (x .reported)
     where
       go : Reported d an (x .answer) (x .book) (x .statistics) n d′ an′ → (bookIn d′ ≡ x .book) × (statisticsIn d′ ≡ x .statistics)
-      go (ffi.refused p q r) =
+      go (report.refused p q r) =
           let e = refused-keeps (x .executes) p in
           (ap bookIn q ∙ sym (ap (λ (k : Stock). k .book) (e .0)), ap statisticsIn q ∙ sym (e .1))
-      go (ffi.done v p m q r) =
+      go (report.done v p m q r) =
           (ap bookIn q, ap statisticsIn q ∙ numbers-statistics (x .book) (x .statistics) (leaves-double (x .executes) (double-in d)))
 
   carried-long : length d ≡ 12 → Carried c d rs bd ak se out an n d′ rs′ bd′ ak′ se′ out′ an′ → length d′ ≡ 12
   carried-long h x = go (x .reported)
     where
       go : Reported d an (x .answer) (x .book) (x .statistics) n d′ an′ → length d′ ≡ 12
-      go (ffi.refused p q r) = ap length q ∙ h
-      go (ffi.done v p m q r) = ap length q ∙ numbers-long (x .book) (x .statistics)
+      go (report.refused p q r) = ap length q ∙ h
+      go (report.done v p m q r) = ap length q ∙ numbers-long (x .book) (x .statistics)
 
 -- but for the first free code, the numbers of two stocks that read alike are the same
 numbers-same : {b₁ b₂ : OrderBook} {st₁ st₂ : Statistics} {rs₁ bd₁ ak₁ se₁ rs₂ bd₂ ak₂ se₂ : List ℕ}
@@ -94,10 +96,10 @@ numbers-same e = λ i. butFree (numbersOf (record { resting = e .resting i; free
 module _ {d an : List ℕ} {a₁ a₂ : Answer} {b₁ b₂ : OrderBook} {st₁ st₂ : Statistics} {rs₁ bd₁ ak₁ se₁ rs₂ bd₂ ak₂ se₂ : List ℕ} {n₁ n₂ : ℕ} {d₁ d₂ an₁ an₂ : List ℕ}
     (e : a₁ ≡ a₂) (s : SameDesk (stock b₁ rs₁ bd₁ ak₁ se₁) (stock b₂ rs₂ bd₂ ak₂ se₂) st₁ st₂) where
   reported-once : Reported d an a₁ b₁ st₁ n₁ d₁ an₁ → Reported d an a₂ b₂ st₂ n₂ d₂ an₂ → (n₁ ≡ n₂) × (an₁ ≡ an₂) × (butFree d₁ ≡ butFree d₂)
-  reported-once (ffi.refused p q r) (ffi.refused p′ q′ r′) = (cc, cc, ap butFree (q ∙ sym q′))
-  reported-once (ffi.refused p q r) (ffi.done v p′ m q′ r′) = absurd (refused-not-done (sym p ∙ (e ∙ p′)))
-  reported-once (ffi.done v p m q r) (ffi.refused p′ q′ r′) = absurd (refused-not-done (sym p′ ∙ (sym e ∙ p)))
-  reported-once (ffi.done v p m q r) (ffi.done v′ p′ m′ q′ r′) =
+  reported-once (report.refused p q r) (report.refused p′ q′ r′) = (cc, cc, ap butFree (q ∙ sym q′))
+  reported-once (report.refused p q r) (report.done v p′ m q′ r′) = absurd (refused-not-done (sym p ∙ (e ∙ p′)))
+  reported-once (report.done v p m q r) (report.refused p′ q′ r′) = absurd (refused-not-done (sym p′ ∙ (sym e ∙ p)))
+  reported-once (report.done v p m q r) (report.done v′ p′ m′ q′ r′) =
       let w : v ≡ v′ = cc in
       (m ∙ sym m′, r ∙ (ap eventNumbers w ∙ sym r′), ap butFree q ∙ (numbers-same s ∙ sym (ap butFree q′)))
 
@@ -147,8 +149,8 @@ quotedIn an (quoted.Told q) = (0, quoteNumbers q)
 
 quotes-is : {an an′ : List ℕ} {a : Quoted} {n : ℕ} → Quotes an a n an′ → (n, an′) ≡ quotedIn an a
 unfolding quotedIn
-quotes-is (ffi.refused p q) = rw (p, q)
-quotes-is (ffi.told v p m q) = rw (p, m, q)
+quotes-is (report.refused p q) = rw (p, q)
+quotes-is (report.told v p m q) = rw (p, m, q)
 
 deepIn : List ℕ → Deep → ℕ × List ℕ
 deepIn an (deep.Refused n) = (n, an)
@@ -156,8 +158,8 @@ deepIn an (deep.Told q) = (0, depthNumbers q)
 
 depths-is : {an an′ : List ℕ} {a : Deep} {n : ℕ} → Depths an a n an′ → (n, an′) ≡ deepIn an a
 unfolding deepIn
-depths-is (ffi.refused p q) = rw (p, q)
-depths-is (ffi.told v p m q) = rw (p, m, q)
+depths-is (report.refused p q) = rw (p, q)
+depths-is (report.told v p m q) = rw (p, m, q)
 
 gotIn : List ℕ → Got → ℕ × List ℕ
 gotIn an (got.Refused n) = (n, an)
@@ -165,8 +167,8 @@ gotIn an (got.Told q) = (0, lookNumbers (q .found) (q .count))
 
 looks-is : {an an′ : List ℕ} {a : Got} {n : ℕ} → LookReported an a n an′ → (n, an′) ≡ gotIn an a
 unfolding gotIn
-looks-is (ffi.refused p q) = rw (p, q)
-looks-is (ffi.told v p m q) = rw (p, m, q)
+looks-is (report.refused p q) = rw (p, q)
+looks-is (report.told v p m q) = rw (p, m, q)
 
 both-of : {n₁ n₂ : ℕ} {an₁ an₂ : List ℕ} {v : ℕ × List ℕ} → (n₁, an₁) ≡ v → (n₂, an₂) ≡ v → (n₁ ≡ n₂) × (an₁ ≡ an₂)
 both-of p q = (ap (λ (v : ℕ × List ℕ). v .0) (p ∙ sym q), ap (λ (v : ℕ × List ℕ). v .1) (p ∙ sym q))
@@ -200,8 +202,8 @@ openingIn d (value v) = (0, numbersOf (v .0) (v .1))
 
 opens-is : {d d′ : List ℕ} {a : Opening} {n : ℕ} → Opens d a n d′ → (n, d′) ≡ openingIn d (openingOf a)
 unfolding openingIn
-opens-is (ffi.refused p q) = rw (p, q)
-opens-is (ffi.made b st p m q) = rw (p, m, q)
+opens-is (report.refused p q) = rw (p, q)
+opens-is (report.made b st p m q) = rw (p, m, q)
 
 pub opened-once : {d rs bd ak se d₁ rs₁ bd₁ ak₁ se₁ d₂ rs₂ bd₂ ak₂ se₂ : List ℕ} {n₁ n₂ : ℕ}
     → OpenedAs d rs bd ak se n₁ d₁ rs₁ bd₁ ak₁ se₁ → OpenedAs d rs bd ak se n₂ d₂ rs₂ bd₂ ak₂ se₂

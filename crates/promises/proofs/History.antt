@@ -11,7 +11,7 @@ use Rattle.rules.specs.Late.{plain, Names, refuses, rests, Alike, Histories, un
 use Rattle.rules.proofs.Demand2.{demand2}
 use Rattle.rules.proofs.Plain.{alone}
 use Rattle.models.specs.declared.OrderEvent.{OrderEvent}
-use Rattle.models.specs.declared.Statistics.{Statistics}
+use Rattle.stats.specs.declared.Statistics.{Statistics}
 use Rattle.desk.specs.declared.Answer.{Answer}
 use Rattle.desk.specs.declared.Answer.the-variants.{Done}
 use Rattle.ledger.specs.Stock.{Stock}

@@ -12,14 +12,14 @@ use lib.Ieee.Bits.{ofBits-toBits, ofBits-fits}
 use lib.Ieee.Fits.{div-fits}
 use lib.ListN.{length, getD, set}
 use Rattle.rules.specs.Rules as rule
-use Rattle.models.specs.declared.LastTrade.{LastTrade}
-use Rattle.models.specs.declared.LastTrade.the-variants.{Absent, Present}
-use Rattle.models.specs.declared.Statistics.{Statistics}
-use Rattle.models.specs.Readings.{lastOf}
+use Rattle.stats.specs.declared.LastTrade.{LastTrade}
+use Rattle.stats.specs.declared.LastTrade.the-variants.{Absent, Present}
+use Rattle.stats.specs.declared.Statistics.{Statistics}
+use Rattle.stats.specs.Statistics.{lastOf}
 use Rattle.ledger.specs.declared.OrderBook.{OrderBook}
 use Rattle.desk.specs.Stock.{readDesk}
 use Rattle.ledger.specs.Stock.{stock}
-use Rattle.ffi.specs.Numbers.{bookIn, tradeIn, lastIn, statisticsIn, yes, lastNumbers, numbersOf}
+use Rattle.numbers.specs.Numbers.{bookIn, tradeIn, lastIn, statisticsIn, yes, lastNumbers, numbersOf}
 use Rattle.promises.specs.History.{switch}
 use Rattle.promises.specs.Exports.{deskAt, HasDouble}
 

@@ -5,15 +5,17 @@ use mathlib.Core.Path.{_≡_, refl, sym, _∙_}
 use mathlib.Core.List.{List, []}
 use mathlib.Core.Option.{Option}
 use Rattle.rules.specs.Rules as rule
-use Rattle.models.specs.declared.Statistics.{Statistics}
+use Rattle.stats.specs.declared.Statistics.{Statistics}
 use Rattle.desk.specs.declared.Answer.{Answer}
 use Rattle.ledger.specs.Stock.{Stock}
-use Rattle.calls.specs.declared.Quoted.{Quoted}
-use Rattle.calls.specs.declared.Deep.{Deep}
-use Rattle.calls.specs.declared.Got.{Got}
+use Rattle.questions.specs.declared.Quoted.{Quoted}
+use Rattle.questions.specs.declared.Deep.{Deep}
+use Rattle.questions.specs.declared.Got.{Got}
 use Rattle.calls.specs.declared.Opening.{Opening}
-use Rattle.calls.specs.Calls.{Executes, Tells, Shows, Finds, Makes}
+use Rattle.calls.specs.Calls.{Executes, Makes}
+use Rattle.questions.specs.Questions.{Tells, Shows, Finds}
 use Rattle.calls.specs.Calls as call
+use Rattle.questions.specs.Questions as ask
 use Rattle.promises.specs.Outcomes.{Agree, AgreeFresh, neither, both}
 use Rattle.promises.proofs.Answers.{answer-same, quoted-same, deep-same, got-same, opening-same}
 use Rattle.promises.proofs.Performed.{finds}
@@ -30,23 +32,23 @@ one-outcome (call.performed w x) (call.performed w′ y) = executes-alike w w re
 
 -- lowest ask, highest bid, spread: one answer
 pub tells-once : {z : rule.Size} {f : rule.Book (Unit {0}) → Option ℕ} {k : Stock} {a b : Quoted} → Tells z f k a → Tells z f k b → a ≡ b
-tells-once {a = a} {b = b} (call.broken w p) (call.broken w′ p′) = quoted-same a b (p ∙ sym p′)
-tells-once (call.broken w p) (call.told w′ p′) = absurd (w w′)
-tells-once (call.told w p) y = tells-alike w w refl (call.told w p) y
+tells-once {a = a} {b = b} (ask.broken w p) (ask.broken w′ p′) = quoted-same a b (p ∙ sym p′)
+tells-once (ask.broken w p) (ask.told w′ p′) = absurd (w w′)
+tells-once (ask.told w p) y = tells-alike w w refl (ask.told w p) y
 
 -- depth: one answer, one buffer
 pub shows-once : {z : rule.Size} {n : ℕ} {k : Stock} {out out₁ out₂ : List ℕ} {a b : Deep} → Shows z n k out a out₁ → Shows z n k out b out₂ → (a ≡ b) × (out₁ ≡ out₂)
-shows-once {a = a} {b = b} (call.broken w p o) (call.broken w′ p′ o′) = (deep-same a b (p ∙ sym p′), o ∙ sym o′)
-shows-once (call.broken w p o) (call.refused w′ m r′ p′ o′) = absurd (w w′)
-shows-once (call.broken w p o) (call.shown w′ l m r′ p′ o′) = absurd (w w′)
-shows-once (call.refused w m r p o) y = shows-alike w w refl (call.refused w m r p o) y
-shows-once (call.shown w l m r p o) y = shows-alike w w refl (call.shown w l m r p o) y
+shows-once {a = a} {b = b} (ask.broken w p o) (ask.broken w′ p′ o′) = (deep-same a b (p ∙ sym p′), o ∙ sym o′)
+shows-once (ask.broken w p o) (ask.refused w′ m r′ p′ o′) = absurd (w w′)
+shows-once (ask.broken w p o) (ask.shown w′ l m r′ p′ o′) = absurd (w w′)
+shows-once (ask.refused w m r p o) y = shows-alike w w refl (ask.refused w m r p o) y
+shows-once (ask.shown w l m r p o) y = shows-alike w w refl (ask.shown w l m r p o) y
 
 -- the search by id: one answer, the count included
 pub finds-once : {z : rule.Size} {i : ℕ} {k : Stock} {a b : Got} → Finds z i k a → Finds z i k b → a ≡ b
-finds-once {a = a} {b = b} (call.broken w p) (call.broken w′ p′) = got-same a b (p ∙ sym p′)
-finds-once (call.broken w p) (call.found w′ o r′ p′) = absurd (w w′)
-finds-once {a = a} {b = b} (call.found w o r p) y = got-same a b (finds {a = a} w (call.found w o r p) ∙ sym (finds w y))
+finds-once {a = a} {b = b} (ask.broken w p) (ask.broken w′ p′) = got-same a b (p ∙ sym p′)
+finds-once (ask.broken w p) (ask.found w′ o r′ p′) = absurd (w w′)
+finds-once {a = a} {b = b} (ask.found w o r p) y = got-same a b (finds {a = a} w (ask.found w o r p) ∙ sym (finds w y))
 
 -- a fresh book
 pub makes-once : {z : rule.Size} {rs bd ak se rs₁ bd₁ ak₁ se₁ rs₂ bd₂ ak₂ se₂ : List ℕ} {a b : Opening}

@@ -8,22 +8,25 @@ use lib.ListN.{length}
 use Rattle.rules.specs.Rules as rule
 use Rattle.rules.specs.Late.{refuses, fillsOf}
 use Rattle.rules.proofs.Demand2.{refused-same}
-use Rattle.models.specs.declared.Statistics.{Statistics}
-use Rattle.models.specs.Rows.{fillRow, levelRow, places, written}
-use Rattle.models.proofs.Places.{written-none, fill-faithful, level-faithful}
+use Rattle.stats.specs.declared.Statistics.{Statistics}
+use Rattle.rows.specs.Rows.{fillRow, levelRow, places, written}
+use Rattle.rows.proofs.Places.{written-none, fill-faithful, level-faithful}
 use Rattle.search.specs.Seek.{sought}
 use Rattle.desk.specs.declared.Answer.{Answer}
 use Rattle.ledger.specs.Stock.{Stock}
 use Rattle.ledger.specs.Desk.{readBook}
 use Rattle.desk.specs.Stock.{readDesk}
 use Rattle.desk.specs.Performs.{answerOf, refused, carried}
-use Rattle.calls.specs.declared.Quoted.{Quoted}
-use Rattle.calls.specs.declared.Deep.{Deep}
-use Rattle.calls.specs.declared.Got.{Got}
-use Rattle.calls.specs.Answers.{Reading, number, value, quotedOf, deepOf, gotOf}
+use Rattle.questions.specs.declared.Quoted.{Quoted}
+use Rattle.questions.specs.declared.Deep.{Deep}
+use Rattle.questions.specs.declared.Got.{Got}
+use Rattle.models.specs.Readings.{Reading, number, value}
+use Rattle.questions.specs.Answers.{quotedOf, deepOf, gotOf}
 use Rattle.whole.specs.Whole.{WholeStock}
-use Rattle.calls.specs.Calls.{Executes, Tells, Shows, Finds}
+use Rattle.calls.specs.Calls.{Executes}
+use Rattle.questions.specs.Questions.{Tells, Shows, Finds}
 use Rattle.calls.specs.Calls as call
+use Rattle.questions.specs.Questions as ask
 use Rattle.promises.specs.History.{fillsBy, Answers}
 
 -- ## orders and cancels
@@ -79,18 +82,18 @@ orderIn (rule.found o) = o
 
 module _ {z : rule.Size} {k : Stock} where
   pub tells : {f : rule.Book (Unit {0}) → Option ℕ} {a : Quoted} → WholeStock z k → Tells z f k a → quotedOf a ≡ value (f (readBook k))
-  tells w (call.broken n p) = absurd (n w)
-  tells w (call.told _ p) = p
+  tells w (ask.broken n p) = absurd (n w)
+  tells w (ask.told _ p) = p
 
   pub shows : {n : ℕ} {out out′ : List ℕ} {a : Deep} → WholeStock z k → Shows z n k out a out′
       → (deepOf a ≡ depthIn (replyOf (readBook k) (rule.depth n (places levelRow out))))
       × (out′ ≡ written levelRow out 0 (levelsIn (replyOf (readBook k) (rule.depth n (places levelRow out)))))
-  shows w (call.broken n p o) = absurd (n w)
-  shows {out = out} w (call.refused _ m r p o) =
+  shows w (ask.broken n p o) = absurd (n w)
+  shows {out = out} w (ask.refused _ m r p o) =
       (p ∙ ap depthIn (sym (r _)), o ∙ (sym (written-none levelRow (level-faithful .long) out 0) ∙ ap (λ (q : rule.Reply). written levelRow out 0 (levelsIn q)) (sym (r _))))
-  shows {out = out} w (call.shown _ l m r p o) = (p ∙ ap depthIn (sym (r _)), o ∙ ap (λ (q : rule.Reply). written levelRow out 0 (levelsIn q)) (sym (r _)))
+  shows {out = out} w (ask.shown _ l m r p o) = (p ∙ ap depthIn (sym (r _)), o ∙ ap (λ (q : rule.Reply). written levelRow out 0 (levelsIn q)) (sym (r _)))
 
   pub finds : {i : ℕ} {a : Got} → WholeStock z k → Finds z i k a
       → gotOf a ≡ value (orderIn (replyOf (readBook k) (rule.search i)), (sought (k .search) (k .records) i) .count)
-  finds w (call.broken n p) = absurd (n w)
-  finds {i = i} w (call.found _ o r p) = p ∙ ap (λ (q : rule.Reply). value (orderIn q, (sought (k .search) (k .records) i) .count)) (sym (r _))
+  finds w (ask.broken n p) = absurd (n w)
+  finds {i = i} w (ask.found _ o r p) = p ∙ ap (λ (q : rule.Reply). value (orderIn q, (sought (k .search) (k .records) i) .count)) (sym (r _))

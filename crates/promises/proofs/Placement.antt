@@ -6,10 +6,10 @@ use mathlib.Core.List.{List}
 use mathlib.Core.Option.{Option}
 use lib.ListN.{length}
 use Rattle.rules.specs.Rules as rule
-use Rattle.models.specs.declared.Statistics.{Statistics}
-use Rattle.models.specs.Readings.{statisticsOf}
-use Rattle.models.specs.Rows.{fillRow, levelRow, places, written}
-use Rattle.models.proofs.Readings.{statistics-same}
+use Rattle.stats.specs.declared.Statistics.{Statistics}
+use Rattle.stats.specs.Statistics.{statisticsOf}
+use Rattle.rows.specs.Rows.{fillRow, levelRow, places, written}
+use Rattle.stats.proofs.Readings.{statistics-same}
 use Rattle.whole.proofs.Join.{whole-desk}
 use Rattle.whole.proofs.Desk.{desk-resting}
 use Rattle.depth.proofs.Desk.{bid-count, ask-count}
@@ -17,12 +17,14 @@ use Rattle.desk.specs.declared.Answer.{Answer}
 use Rattle.ledger.specs.Stock.{Stock}
 use Rattle.ledger.specs.Desk.{readBook}
 use Rattle.desk.specs.Stock.{readDesk}
-use Rattle.calls.specs.declared.Quoted.{Quoted}
-use Rattle.calls.specs.declared.Deep.{Deep}
-use Rattle.calls.specs.declared.Got.{Got}
-use Rattle.calls.specs.Answers.{value, gotOf}
+use Rattle.questions.specs.declared.Quoted.{Quoted}
+use Rattle.questions.specs.declared.Deep.{Deep}
+use Rattle.questions.specs.declared.Got.{Got}
+use Rattle.models.specs.Readings.{value}
+use Rattle.questions.specs.Answers.{gotOf}
 use Rattle.whole.specs.Whole.{WholeStock}
-use Rattle.calls.specs.Calls.{Executes, Tells, Shows, Finds}
+use Rattle.calls.specs.Calls.{Executes}
+use Rattle.questions.specs.Questions.{Tells, Shows, Finds}
 use Rattle.promises.specs.Outcomes.{SameDesk, Agree, uncounted}
 use Rattle.promises.specs.History.{fillsBy}
 use Rattle.promises.proofs.Answers.{answer-same, quoted-same, deep-same}

@@ -11,11 +11,10 @@ use lib.Ieee.{binary64, fits}
 use lib.ListN.{set}
 use Rattle.rules.specs.Rules as rule
 use Rattle.models.specs.declared.OrderType.{OrderType}
-use Rattle.models.specs.declared.Side.{Side}
 use Rattle.desk.specs.Stock.{readDesk}
-use Rattle.ffi.specs.Numbers.{bookIn, statisticsIn, yes}
+use Rattle.numbers.specs.Numbers.{bookIn, statisticsIn, yes}
 use Rattle.ledger.specs.Stock.{stock}
-use Rattle.ffi.specs.Exports.{Carried, Sided, OpenedAs}
+use Rattle.ffi.specs.Exports.{Carried, OpenedAs}
 use Rattle.promises.specs.History.{callWith}
 
 -- the desk that the twelve numbers d and the four lists read as
@@ -44,12 +43,6 @@ pub record AgreeCarried (n₁ : ℕ) (d₁ rs₁ bd₁ ak₁ se₁ out₁ an₁ 
   pub answer : an₁ ≡ an₂
   pub left : SameNumbers d₁ rs₁ bd₁ ak₁ se₁ d₂ rs₂ bd₂ ak₂ se₂
   pub buffer : out₁ ≡ out₂
-
--- what felavuti_market and felavuti_limit promise: o is the order by its side, and a side's number above 1 leaves all as it was
-abbrev pub Ordered : (Side → OrderType) → ℕ → (d rs bd ak se out an : List ℕ) → ℕ → (d′ rs′ bd′ ak′ se′ out′ an′ : List ℕ) → Type 0
-Ordered o side d rs bd ak se out an n d′ rs′ bd′ ak′ se′ out′ an′ =
-    Sided side n ((d′ ≡ d) × (rs′ ≡ rs) × (bd′ ≡ bd) × (ak′ ≡ ak) × (se′ ≡ se) × (out′ ≡ out) × (an′ ≡ an))
-    (λ s. Carried (callWith out (o s)) d rs bd ak se out an n d′ rs′ bd′ ak′ se′ out′ an′)
 
 -- ---- histories
 

@@ -9,9 +9,9 @@ use Rattle.rules.specs.Turns.{Demand2}
 use Rattle.rules.specs.Late.{plain, fillsOf, rests, turn, share, answerTo}
 use Rattle.models.specs.declared.OrderType.{OrderType}
 use Rattle.models.specs.declared.OrderEvent.{OrderEvent}
-use Rattle.models.specs.declared.Statistics.{Statistics}
+use Rattle.stats.specs.declared.Statistics.{Statistics}
 use Rattle.models.specs.Readings.{callOf}
-use Rattle.models.specs.Rows.{fillRow, places, written}
+use Rattle.rows.specs.Rows.{fillRow, places, written}
 use Rattle.desk.specs.declared.Answer.{Answer}
 use Rattle.desk.specs.declared.Answer.the-variants.{Done}
 use Rattle.ledger.specs.Stock.{Stock}

@@ -4,13 +4,14 @@ use mathlib.Core.Path.{_≡_}
 use mathlib.Core.List.{List}
 use mathlib.Core.Option.{Option}
 use lib.ListN.{length}
-use Rattle.models.specs.declared.Statistics.{Statistics}
+use Rattle.stats.specs.declared.Statistics.{Statistics}
 use Rattle.ledger.specs.declared.OrderBook.{OrderBook}
 use Rattle.desk.specs.declared.Answer.{Answer}
 use Rattle.ledger.specs.Stock.{Stock}
 use Rattle.desk.specs.Stock.{readDesk}
 use Rattle.calls.specs.declared.Opening.{Opening}
-use Rattle.calls.specs.Answers.{Reading, number, value, openingOf}
+use Rattle.models.specs.Readings.{Reading, number, value}
+use Rattle.calls.specs.Calls.{openingOf}
 use Rattle.ledger.specs.Stock.{stock}
 
 -- Two stocks with their statistics read alike. Of the four small values only the first free place is left to placement.

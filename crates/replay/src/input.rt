@@ -1,6 +1,5 @@
 // An order out of standard input: five numbers of 8 bytes, low byte first: kind, side, id, quantity, price (crate script says what they mean).
 ghost use Prim.Native.Nat.{_+_, _≤_};
-ghost use lib.ListN.{length};
 use libc::STDERR_FILENO;
 use libc::STDIN_FILENO;
 use script::Step;

@@ -1,18 +1,20 @@
-// Carries out the orders that come in on standard input, and prints what the desk answers. The stored input and output are lobster's own, both made by compare/src/stored.rs: so the
-// gate holds the proved desk to lobster's answers and needs no Rust.
-// After an order's answer comes a line of figures: `ask 103 bid - spread - volume 8 last 8 103 3 4637229..`, the last trade as total, last price, last quantity and bits of the average.
-// Numbers that mean no order, an order cut off, or a read that fails end the run with a line on standard error: nothing is dropped unsaid. A program here has no exit status to give.
+// Carries out the orders that come in on standard input, and prints what the desk answers. The stored input and output are lobster's own, both made by
+// compare/src/stored.rs: so the gate holds the proved desk to lobster's answers and needs no Rust.
+// After an order's answer comes a line of figures: `ask 103 bid - spread - volume 8 last 8 103 3 4637229..`, the last trade as total, last price, last
+// quantity and bits of the average.
+// Numbers that mean no order, an order cut off, or a read that fails end the run with a line on standard error: nothing is dropped unsaid. A program
+// here has no exit status to give.
 mod input; // input.rt: an order out of standard input
 
 use input::Reading;
 use input::next_step;
-use models::LastTrade;
-use models::Statistics;
-use models::Trade;
-use models::bits::bits_of;
-use script::OwnDesk;
 use script::FILLS;
+use script::OwnDesk;
 use script::Step;
+use stats::LastTrade;
+use stats::Statistics;
+use stats::Trade;
+use stats::bits::bits_of;
 use tell::line;
 use tell::number;
 use tell::put;

@@ -3,9 +3,7 @@ ghost use mathlib.Core.Path.{_≡_};
 ghost use Prim.Native.Nat.{_≤_};
 ghost use Rattle.models.specs.declared.OrderType.the-variants.{Market, Limit, Cancel};
 ghost use Rattle.models.specs.declared.Side.the-variants.{Bid, Ask};
-use calls::Deep;
 use calls::Opening;
-use calls::Quoted;
 use desk::Answer;
 use ledger::OrderBook;
 use models::Id;
@@ -13,10 +11,12 @@ use models::OrderType;
 use models::Price;
 use models::Quantity;
 use models::Side;
-use models::Statistics;
 use orderbook::LEVELS;
 use orderbook::PLACES;
 use orderbook::RECORDS;
+use questions::Deep;
+use questions::Quoted;
+use stats::Statistics;
 
 // The kinds of a step, and its side.
 pub const MARKET: u64 = 0;

@@ -1,7 +1,7 @@
 // The search by id: a ring of lent places, walked on from an id's home. It keeps codes of records and reads their ids off the records.
 ghost use mathlib.Core.Path.{_≡_};
-ghost use mathlib.Core.Bool.{Bool, true};
-ghost use Prim.Native.Nat.{ℕ, _+_, _<_, _≤_};
+ghost use mathlib.Core.Bool.{true};
+ghost use Prim.Native.Nat.{_+_, _<_};
 ghost use lib.ListN.{length, replicate};
 ghost use Rattle.search.specs.Seek.{inside, home, Masks, next, dist, stops, sought, entering, removing, forgetting, Pointing};
 ghost use Rattle.records.specs.Rows.{RecordAt};

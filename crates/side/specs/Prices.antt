@@ -1,4 +1,5 @@
--- Whose turn it is among a side's rows, and what becomes of them where a price is found, opened or shut: what the functions over them promise. Assumes nothing.
+-- Whose turn it is among a side's rows, and what becomes of them where a price is found, opened or shut: what the functions over them promise. Assumes
+-- nothing.
 use Prim.Native.Nat.{ℕ, _*_, _+_, _-_, _<_, _≤_}
 use mathlib.Core.List.{List}
 use mathlib.Core.Logic.{_≢_}

@@ -3,7 +3,6 @@ ghost use mathlib.Core.Path.{_≡_};
 ghost use mathlib.Core.Logic.{_≢_};
 ghost use Prim.Native.Nat.{_+_, _*_, _-_, _<_, _≤_};
 ghost use lib.ListN.{length};
-ghost use Rattle.records.specs.Rows.{RecordAt};
 ghost use Rattle.arena.specs.Links.{priceOf};
 ghost use Rattle.models.specs.Readings.{sideOf};
 ghost use Rattle.side.specs.Prices.{Opened, Closed, Rising, Bracket, Ready, rowInTurn};

@@ -15,9 +15,9 @@ use Rattle.rules.proofs.Match.{given-within}
 use Rattle.rules.proofs.Turns.{gains}
 use Rattle.records.specs.Rows.{field}
 use Rattle.records.proofs.Cases.{le?}
-use Rattle.models.specs.declared.sums.Sum.{Sum}
-use Rattle.models.specs.Sums.{capped, plusOf}
-use Rattle.models.proofs.Capped.{plus-capped}
+use Rattle.sums.specs.declared.Sum.{Sum}
+use Rattle.sums.specs.Sums.{capped, plusOf}
+use Rattle.sums.proofs.Capped.{plus-capped}
 use Rattle.survey.specs.declared.Outlook.{Outlook}
 use Rattle.survey.specs.Surveyed.{met, surveyed, wholes}
 

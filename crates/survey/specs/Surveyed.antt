@@ -6,7 +6,7 @@ use lib.ListN.{length}
 use Rattle.rules.specs.Rules.{Fill, Outcome, worth}
 use Rattle.rules.specs.Whole.{one}
 use Rattle.records.specs.Rows.{field}
-use Rattle.models.specs.Sums.{capped, plusOf}
+use Rattle.sums.specs.Sums.{capped, plusOf}
 use Rattle.survey.specs.declared.Outlook.{Outlook}
 use Rattle.survey.specs.Makers.{gift}
 

@@ -15,14 +15,14 @@ use models::Id;
 use models::Price;
 use models::Quantity;
 use models::Side;
-use models::sums::Sum;
-use models::sums::plus;
-use models::sums::product;
 use records::NEXT;
 use records::PRICE;
 use records::QUANTITY;
 use records::load;
 use side::visit;
+use sums::Sum;
+use sums::plus;
+use sums::product;
 
 // An order that comes in: it meets any price, or those as good as its limit.
 pub struct Taker {

@@ -1,5 +1,5 @@
-// What the programs print in common, said once: texts and numbers, an order, what the desk answers to it, fills, quotes. Everything goes to standard output, and any value can be told.
-use calls::Quoted;
+// What the programs print in common, said once: texts and numbers, an order, what the desk answers to it, fills, quotes. Everything goes to standard
+// output, and any value can be told.
 use depth::Quote;
 use desk::Answer;
 use libc::STDOUT_FILENO;
@@ -7,7 +7,7 @@ use models::FillMetadata;
 use models::OrderEvent;
 use models::OrderType;
 use models::Side;
-use models::rows;
+use questions::Quoted;
 
 pub fn put(text: &[u8]) {
     io::write_all(STDOUT_FILENO, text);

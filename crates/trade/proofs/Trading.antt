@@ -12,7 +12,7 @@ use Rattle.records.specs.Rows.{field, recordCount}
 use Rattle.search.specs.Seek.{entryFor}
 use Rattle.models.specs.declared.Side as models
 use Rattle.models.specs.Readings.{sideOf}
-use Rattle.models.specs.Rows.{fillRow, places, written}
+use Rattle.rows.specs.Rows.{fillRow, places, written}
 use Rattle.side.specs.Levels.{Lvl}
 use Rattle.side.specs.Orders.{codes, orders}
 use Rattle.side.specs.Read.{freeIn, levelsIn}

@@ -6,7 +6,7 @@ use lib.ListN.{drop, length}
 use Rattle.rules.specs.Rules.{Book, Outcome, Side, book, lastPrice, lastQuantity, opposite, outcome, own}
 use Rattle.rules.specs.Whole.{Whole}
 use Rattle.models.specs.Readings.{sideOf}
-use Rattle.models.specs.Rows.{fillRow, places, written}
+use Rattle.rows.specs.Rows.{fillRow, places, written}
 use Rattle.ledger.specs.Stock.{Stock}
 use Rattle.ledger.specs.Desk.{Tidy, LeavesAs, readBook}
 use Rattle.survey.specs.declared.Taker.{Taker}

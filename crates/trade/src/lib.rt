@@ -50,7 +50,8 @@ pub fn sweep(
 ) -> OrderBook
     requires { ⌜ Tidy (stock b (now records) (now bids) (now asks) (now search))
         × (count ≤ length (own (sideOf side) (readBook (stock b (now records) (now bids) (now asks) (now search))))) ⌝ }
-    ensures { λ r. ⌜ LeavesAs (swept (sideOf side) count (readBook (stock b (now (records .entry)) (now (bids .entry)) (now (asks .entry)) (now (search .entry)))))
+    ensures { λ r. ⌜ LeavesAs (swept (sideOf side) count
+        (readBook (stock b (now (records .entry)) (now (bids .entry)) (now (asks .entry)) (now (search .entry)))))
         (stock r (now (records .exit)) (now (bids .exit)) (now (asks .exit)) (now (search .exit))) ⌝ }
 {
     let mut book = b;

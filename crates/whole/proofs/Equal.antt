@@ -16,8 +16,9 @@ use Rattle.arena.proofs.Times.{isCode-row, times-append}
 use Rattle.side.specs.Levels.{Ladder, ups}
 use Rattle.side.specs.Read.{freeIn, levelsIn}
 use Rattle.ledger.specs.declared.OrderBook.{OrderBook}
+use Rattle.ranks.specs.Ranks.{Parted, SideRight}
+use Rattle.table.specs.Live.{Table}
 use Rattle.whole.specs.Whole.{Lengths, Limits, WholeStorage, restingIn}
-use Rattle.whole.specs.Check.{Parted, SideRight, Table}
 use Rattle.whole.proofs.Counting.{all-long, all-once, code-row}
 use Rattle.whole.proofs.Sides.{Each, ladder-sided, side-bottom, side-once, side-top, sided-busy, sided-each, sided-ladder}
 use Rattle.whole.proofs.Spare.{Spared, spared-once}

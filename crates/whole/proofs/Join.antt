@@ -10,7 +10,7 @@ use lib.ListN.{length, length-append}
 use borrow.Author.Tests.{lt-leb}
 use Rattle.rules.specs.Rules.{Book, Size, ask, bid, limit, own, within}
 use Rattle.rules.specs.Whole.{All, Whole, WholeBook, empty, seen, sorted[]}
-use Rattle.records.specs.Rows.{RecordAt, field, recordCount}
+use Rattle.records.specs.Rows.{field, recordCount}
 use Rattle.search.specs.Seek.{at, entryFor}
 use Rattle.search.proofs.Walks.{held, own as own-place, sound}
 use Rattle.arena.specs.Times.{isCode, times}
@@ -27,7 +27,7 @@ use Rattle.ledger.proofs.Apart.{apart-at}
 use Rattle.whole.specs.Whole.{Lengths, WholeStorage, restingIn}
 use Rattle.whole.proofs.Counting.{all-once}
 use Rattle.whole.proofs.Desk.{desk-once, desk-prices, desk-resting, desk-sorted, row-order}
-use Rattle.whole.proofs.Equal.{rests-row, whole-full, whole-good}
+use Rattle.whole.proofs.Equal.{whole-full, whole-good}
 use Rattle.whole.proofs.Orders.{all-at, all-of, split}
 use Rattle.whole.proofs.Sides.{side-bottom, side-top}
 

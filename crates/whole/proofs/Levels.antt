@@ -1,17 +1,15 @@
--- The levels as storage says them, row by row: how many, which, and how many orders. Assumes nothing.
-use Prim.Native.Nat.{suc, zero, ℕ, _+_, _<_, _≤_}
-use mathlib.Core.List.{List, []}
-use mathlib.Core.Logic.{_≢_, ⊎-elim}
+-- The levels as storage says them, row by row: how many, which, and in which of them an order is. Assumes nothing.
+use Prim.Native.Nat.{ℕ, _+_, _<_, _≤_}
+use mathlib.Core.List.{List}
 use mathlib.Core.Path.{ap, _∙_, _≡_}
 use native.Mathlib.Omega.{arith}
-use lib.ListN.{length, length-append}
+use lib.ListN.{length}
 use Rattle.records.specs.Rows.{recordCount}
-use Rattle.records.proofs.Cases.{same?}
 use Rattle.arena.specs.Free.{chain}
 use Rattle.arena.specs.Links.{headOf, priceOf}
 use Rattle.arena.specs.Times.{times}
 use Rattle.side.specs.Levels.{Lvl, nth, ups}
-use Rattle.side.specs.Read.{levelsFrom, levelsIn}
+use Rattle.side.specs.Read.{levelsIn}
 use Rattle.side.proofs.Leaving.{stands}
 use Rattle.side.proofs.Levels.{nth-times}
 use Rattle.side.proofs.Own.{from-length, from-nth}
@@ -19,21 +17,6 @@ use Rattle.side.proofs.Own.{from-length, from-nth}
 -- the level that row i stores
 abbrev pub levelAt : List ℕ → List ℕ → ℕ → Lvl
 levelAt rs lv i = record { price = priceOf lv i; queue = chain (recordCount rs) rs (headOf lv i) }
-
-module _ (m : ℕ) (rs lv : List ℕ) where
-  from-more : (i n : ℕ) → length (ups (levelsFrom m rs lv i (suc n))) ≡ length (ups (levelsFrom m rs lv i n)) + length (chain m rs (headOf lv (i + n)))
-  from-more i zero =
-      let e : i + 0 ≡ i = omega arith in
-      rw e (omega (arith, length-append (chain m rs (headOf lv i)) []))
-  from-more i (suc n) =
-      let e : suc i + n ≡ i + suc n = omega arith in
-      omega (
-        arith,
-        length-append (chain m rs (headOf lv i)) (ups (levelsFrom m rs lv (suc i) (suc n))),
-        length-append (chain m rs (headOf lv i)) (ups (levelsFrom m rs lv (suc i) n)),
-        from-more (suc i) n,
-        ap (λ (k : ℕ). length (chain m rs (headOf lv k))) e,
-      )
 
 module _ (rs lv : List ℕ) where
   pub levels-length : (n : ℕ) → length (levelsIn rs lv n) ≡ n
@@ -43,24 +26,6 @@ module _ (rs lv : List ℕ) where
   levels-nth n i h =
       let e : 0 + i ≡ i = omega arith in
       from-nth (recordCount rs) rs lv 0 n i h ∙ ap (levelAt rs lv) e
-
-  -- one row more
-  pub levels-more : (n : ℕ) → length (ups (levelsIn rs lv (n + 1))) ≡ length (ups (levelsIn rs lv n)) + length (chain (recordCount rs) rs (headOf lv n))
-  levels-more n =
-      let e : n + 1 ≡ suc n = omega arith in
-      let f : 0 + n ≡ n = omega arith in
-      rw e (from-more (recordCount rs) rs lv 0 n ∙ ap (λ (k : ℕ). length (ups (levelsIn rs lv n)) + length (chain (recordCount rs) rs (headOf lv k))) f)
-
-  pub levels-first : (i n : ℕ) → i ≤ n → length (ups (levelsIn rs lv i)) ≤ length (ups (levelsIn rs lv n))
-  levels-first i zero h = let e : i ≡ 0 = omega arith in rw e (omega arith)
-  levels-first i (suc n) h =
-      ⊎-elim
-      (λ (e : i ≡ suc n). rw e (omega arith))
-      (λ (k : i ≢ suc n).
-      let e : n + 1 ≡ suc n = omega arith in
-      let q : length (ups (levelsIn rs lv (suc n))) ≡ length (ups (levelsIn rs lv n)) + length (chain (recordCount rs) rs (headOf lv n)) = rw e at (levels-more n) in
-      omega (arith, levels-first i n (omega arith)))
-      (same? i (suc n))
 
   -- an order of the side is in one row's queue, and so is each order of a row on the side
   pub record InRow (n c : ℕ) : Type 0 where

@@ -1,7 +1,5 @@
-pub mod Queues
 pub mod Spare
 pub mod Lengths
-pub mod Table
 pub mod Levels
 pub mod Sides
 pub mod Counting

@@ -1,6 +1,6 @@
 -- Codes as the orders of the rules: all of them, their turns, their levels, the prices they occupy, and those found under an id. Assumes nothing.
 use Prim.Native.Nat.{suc, ℕ, _+_, _<_, _≤_}
-use mathlib.Core.Bool.{Bool, cond, false, not, true, _&&_, _||_}
+use mathlib.Core.Bool.{Bool, cond, false, not, true, _&&_}
 use mathlib.Core.List.{List, [], _++_, _∷_}
 use mathlib.Core.Logic.{_≢_, ⊎-elim}
 use mathlib.Core.Path.{ap, refl, sym, _∙_, _≡_}
@@ -21,7 +21,7 @@ use Rattle.side.specs.Orders.{codes, orderAt, orders}
 use Rattle.side.proofs.Levels.{downs-times}
 use Rattle.side.proofs.Orders.{Tiers}
 use Rattle.ledger.specs.Desk.{Busy, found}
-use Rattle.whole.proofs.Queues.{each-more}
+use Rattle.ranks.proofs.Queues.{each-more}
 
 -- a code is in a joined list where it is in one of the two
 pub split : (P : Type 0) (x : ℕ) (a b : List ℕ) → 1 ≤ times x (a ++ b) → (1 ≤ times x a → P) → (1 ≤ times x b → P) → P

@@ -1,15 +1,17 @@
--- The rows of a side as the check counts them, and as the doors have them. Assumes nothing.
-use Prim.Native.Nat.{suc, zero, ℕ, _*_, _+_, _-_, _<_, _≤_}
+-- The rows of a side as the check counts them are those of the doors; no order is on a side twice, and its prices lie between its ends. Assumes nothing.
+use Prim.Native.Nat.{suc, zero, ℕ, _*_, _-_, _<_, _≤_}
 use mathlib.Core.List.{List, [], _∷_}
 use mathlib.Core.Logic.{_≢_, ⊎-elim}
 use mathlib.Core.Path.{ap, refl, _≡_}
 use native.Mathlib.Omega.{arith}
 use lib.ListN.{length}
-use Rattle.records.specs.Rows.{RecordAt, field, recordCount}
+use Rattle.records.specs.Rows.{RecordAt, field}
 use Rattle.records.proofs.Cases.{lt?, same?}
 use Rattle.arena.specs.Links.{headOf, link, priceOf, tailOf}
+use Rattle.arena.specs.Ring.{Run}
 use Rattle.arena.specs.Times.{times}
-use Rattle.arena.proofs.Times.{times-append}
+use Rattle.arena.proofs.Once.{Ending, ending-once}
+use Rattle.arena.proofs.Times.{one-self, times-append}
 use Rattle.side.specs.Levels.{Ladder, LevelStored, Lvl, nth, ups}
 use Rattle.side.specs.Read.{levelsIn}
 use Rattle.side.proofs.Leaving.{stands}
@@ -17,57 +19,8 @@ use Rattle.side.proofs.Levels.{nth-times}
 use Rattle.side.proofs.Orders.{Tiers, side-tiers}
 use Rattle.ledger.specs.Desk.{Busy}
 use Rattle.ledger.proofs.Best.{busy-at}
-use Rattle.whole.specs.Check.{QueueAt, Rises, SideRight, Totals, walked}
-use Rattle.whole.proofs.Levels.{in-row, levelAt, levels-first, levels-length, levels-more, levels-nth, row-in}
-use Rattle.whole.proofs.Queues.{queue-once, queue-walk, walk-queue}
-
--- ## Counting row by row
-
-module _ (rs lv : List ℕ) where
-  side-none : SideRight rs lv 0
-  side-none = record { queue = λ i h. absurd (let z : ⊥ = omega arith in z); rises = λ i h. absurd (let z : ⊥ = omega arith in z) }
-
-  side-more : (i : ℕ) → SideRight rs lv i → Rises lv i → QueueAt rs (priceOf lv i) (headOf lv i) (tailOf lv i) → SideRight rs lv (i + 1)
-  side-more i s u q = record {
-    queue = λ j b. ⊎-elim (λ (w : j ≡ i). rw w q) (λ (w : j ≢ i). s .queue j (omega arith)) (same? j i);
-    rises = λ j b. ⊎-elim (λ (w : j ≡ i). rw w u) (λ (w : j ≢ i). s .rises j (omega arith)) (same? j i);
-  }
-
-  -- a side that is right is counted
-  pub side-counts : (i n most sum : ℕ) → i < n → most ≤ recordCount rs → SideRight rs lv n → length (ups (levelsIn rs lv n)) ≤ most → length (ups (levelsIn rs lv i)) ≡ sum
-      → walked rs (priceOf lv i) (tailOf lv i) (most - sum) 0 (headOf lv i) 0 ≡ 0 → ⊥
-  side-counts i n most sum h l s b e z =
-      let q = s .queue i h in
-      let w = queue-walk rs (priceOf lv i) (headOf lv i) (tailOf lv i) (most - sum) (omega arith) q (omega (arith, levels-more rs lv i, levels-first rs lv (i + 1) n (omega arith))) in
-      omega (arith, w, q .busy)
-
-  pub totals-yes : (n most sum : ℕ) → SideRight rs lv n → length (ups (levelsIn rs lv n)) ≡ sum → sum ≤ most → Totals rs lv n most sum
-  totals-yes n most sum s e l = record { yea = λ _. (s, e); nay = λ h _ _. omega arith }
-
-  pub totals-no : (n most : ℕ) → (SideRight rs lv n → length (ups (levelsIn rs lv n)) ≤ most → ⊥) → Totals rs lv n most (most + 1)
-  totals-no n most h = record { yea = λ l. absurd (omega arith); nay = λ _. h }
-
--- i rows of n are counted, with `sum` orders
-pub record Going (rs lv : List ℕ) (n most sum i : ℕ) : Type 0 where
-  pub below : i ≤ n
-  pub within : sum ≤ most
-  pub side : SideRight rs lv i
-  pub total : length (ups (levelsIn rs lv i)) ≡ sum
-
-pub going-start : (rs lv : List ℕ) (n most : ℕ) → Going rs lv n most 0 0
-going-start rs lv n most = record { below = omega arith; within = omega arith; side = side-none rs lv; total = refl }
-
-pub going-on : (rs lv : List ℕ) (n most sum i q : ℕ) → Going rs lv n most sum i → i < n → most ≤ recordCount rs → Rises lv i
-    → (q ≡ walked rs (priceOf lv i) (tailOf lv i) (most - sum) 0 (headOf lv i) 0) × (q ≤ most - sum) → q ≢ 0 → Going rs lv n most (sum + q) (i + 1)
-going-on rs lv n most sum i q g h l u e z =
-    let w = walk-queue rs (priceOf lv i) (headOf lv i) (tailOf lv i) (most - sum) (omega arith) (omega (arith, e .0)) in
-    let b : sum ≤ most = g .within in
-    record { below = omega arith; within = omega (arith, e .1); side = side-more rs lv i (g .side) u (w .0); total = omega (arith, levels-more rs lv i, w .1, g .total, e .0) }
-
-pub going-end : (rs lv : List ℕ) (n most sum i : ℕ) → Going rs lv n most sum i → n ≤ i → Totals rs lv n most sum
-going-end rs lv n most sum i g h =
-    let e : i ≡ n = omega (arith, g .below) in
-    totals-yes rs lv n most sum (rw (← e) (g .side)) (rw (← e) (g .total)) (g .within)
+use Rattle.ranks.specs.Ranks.{SideRight}
+use Rattle.whole.proofs.Levels.{in-row, levelAt, levels-length, levels-nth, row-in}
 
 -- ## As the doors have it
 
@@ -121,6 +74,15 @@ ladder-sided rs lv n a b e = record {
 }
 
 -- ## No order twice
+
+-- in a queue
+ring-ending : (rs : List ℕ) (head : ℕ) (B : ℕ → ℕ) (p : ℕ) (l : List ℕ) → Run (link rs 3 head) B p l 0 → ((x : ℕ) → 1 ≤ times x l → 1 ≤ x) → Ending (field rs 3) (link rs 3 head p) l
+ring-ending rs head B p [] r h = r .0
+ring-ending rs head B p (zero ∷ l) r h = absurd (let z : ⊥ = omega (arith, h 0 (omega (arith, one-self 0))) in z)
+ring-ending rs head B p (suc i ∷ l) r h = (r .0, omega arith, ring-ending rs head B (suc i) l (r .2) (λ x j. h x (omega arith)))
+
+queue-once : (rs : List ℕ) (head : ℕ) (B : ℕ → ℕ) (l : List ℕ) (x : ℕ) → Run (link rs 3 head) B 0 l 0 → ((y : ℕ) → 1 ≤ times y l → 1 ≤ y) → times x l ≤ 1
+queue-once rs head B l x r h = ending-once (field rs 3) head x l (ring-ending rs head B 0 l r h)
 
 -- on a side: prices differ from row to row, and a queue has no order twice
 tiers-once : (rs : List ℕ) (ws : List Lvl) (c : ℕ) → Tiers rs ws → ((i : ℕ) → i < length ws → times c (nth ws i .queue) ≤ 1) → times c (ups ws) ≤ 1

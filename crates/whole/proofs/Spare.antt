@@ -16,8 +16,8 @@ use Rattle.arena.specs.Times.{times}
 use Rattle.arena.proofs.Free.{chain-chain}
 use Rattle.arena.proofs.Once.{Ending, ending-once}
 use Rattle.arena.proofs.Times.{one-self}
-use Rattle.whole.specs.Check.{idle, idles}
-use Rattle.whole.proofs.Queues.{chain-some, each-more}
+use Rattle.whole.specs.Spare.{idle, idles}
+use Rattle.ranks.proofs.Queues.{chain-some, each-more}
 
 -- a free place
 pub record Bare (rs : List ℕ) (c : ℕ) : Type 0 where

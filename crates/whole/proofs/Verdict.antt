@@ -9,8 +9,10 @@ use Rattle.rules.specs.Rules.{Size}
 use Rattle.records.specs.Rows.{recordCount}
 use Rattle.records.proofs.Cases.{le?}
 use Rattle.ledger.specs.declared.OrderBook.{OrderBook}
+use Rattle.ranks.specs.Ranks.{Parted, Totals}
+use Rattle.table.specs.Live.{Table}
 use Rattle.whole.specs.Whole.{Lengths, Limits, WholeStorage}
-use Rattle.whole.specs.Check.{Parted, Table, Totals, idles}
+use Rattle.whole.specs.Spare.{idles}
 use Rattle.whole.proofs.Equal.{sums, whole}
 use Rattle.whole.proofs.Spare.{right-spare, spare-right}
 

@@ -1,6 +1,6 @@
 -- A whole book, as document 01 has it ('A whole book'), over the stored numbers: each sentence is a field, in its words and its order.
--- z is the size of the hall (orders, prices a side); the other short names are those of ledger's Stock.antt. The definitions are those that the doors use: a record's `field`, the levels and the free places
--- as storage says (`levelsIn`, `freeIn`), a side's `Ladder`. Assumes nothing.
+-- z is the size of the hall (orders, prices a side); the other short names are those of ledger's Stock.antt. The definitions are those that the doors
+-- use: a record's `field`, the levels and the free places as storage says (`levelsIn`, `freeIn`), a side's `Ladder`. Assumes nothing.
 use Prim.Native.Nat.{ℕ, _*_, _+_, _-_, _<_, _≤_}
 use mathlib.Core.List.{List, _++_}
 use mathlib.Core.Logic.{_≢_}

@@ -44,21 +44,21 @@ use denote.Triple.Table.{entered, cited}
 use denote.Triple.Walked.{says, Stays, stay-none, stay-none-slice, walkOf, AllGo, goes-none, goes-none-slice, Walks, ends-at, walked, walk-meets}
 use denote.Exit.{yes}
 use borrow.Table.OneValue.{part-in-at, part-out-at}
-use Rattle.models.specs.Statistics.{fillsIn, Follows}
-use Rattle.models.specs.declared.Statistics.{Statistics}
-use Rattle.models.specs.declared.Recorded.{Recorded}
-use Rattle.models.proofs.Statistics as T
-use Rattle.models.proofs.Statistics.Laws as T′
-use Rattle.models.proofs.Recorded as R
-use Rattle.models.proofs.Recorded.Laws as R′
-use Rattle.models.proofs.door.record_fills as g
-use Rattle.models.proofs.door.record_fills.Symbol as g-def
-use Rattle.models.proofs.door.record_fills.Symbol.{name as #g}
-use Rattle.models.proofs.door.record_fills.Met as g-thm
-use Rattle.averages.proofs.by_loan.Key.{name as #f}
+use Rattle.stats.specs.Statistics.{fillsIn, Follows}
+use Rattle.stats.specs.declared.Statistics.{Statistics}
+use Rattle.stats.specs.declared.Recorded.{Recorded}
+use Rattle.stats.proofs.Statistics as T
+use Rattle.stats.proofs.Statistics.Laws as T′
+use Rattle.stats.proofs.Recorded as R
+use Rattle.stats.proofs.Recorded.Laws as R′
+use Rattle.stats.proofs.door.record_fills as g
+use Rattle.stats.proofs.door.record_fills.Symbol as g-def
+use Rattle.stats.proofs.door.record_fills.Met as g-thm
 use Rattle.averages.proofs.by_loan as f
 use Rattle.averages.proofs.by_loan.Statement as stated
 use Rattle.averages.proofs.by_loan.Code as code
+use Rattle.stats.proofs.door.record_fills.Symbol.{name as #g}
+use Rattle.averages.proofs.by_loan.Key.{name as #f}
 
 abbrev stayed : Stays (f.ended .signature .params) (f.ended .kept)
 stayed = (stay-none (λ _. T.the-row) yes, (stay-none-slice (0 ∷ []) tt (plain (λ _. u64)) yes, (stay-none (λ _. usize) yes, tt)))
@@ -182,4 +182,4 @@ by-loan-spec 𝓤 H 𝓜 𝓖 𝓡 =
     entered 𝓤 H (tripleOf 𝓤 H (𝓖 .A) f.signature (f.spec 𝓤 H (𝓖 .A) (𝓜 .mem) (𝓡 .run)))
     (tables 𝓤 H 𝓜 𝓡 code.env .C) (tables 𝓤 H 𝓜 𝓡 code.env .Λ) #f code.function (code.unfolded 𝓤 H 𝓜 𝓡)
     (f-meets 𝓤 H (𝓖 .A) (givenOf 𝓤 H 𝓜 𝓖) (𝓜 .mem) (𝓡 .run) (tablesOf 𝓤 H 𝓜 (tables 𝓤 H 𝓜 𝓡 code.env))
-    (cited 𝓤 H (Door 𝓤 H (𝓖 .A) (𝓜 .mem) (𝓡 .run)) 𝓜 𝓡 code.env #g g-def.routine code.calls-models·door·record-fills (g-thm.met 𝓤 H 𝓜 𝓖 𝓡)))
+    (cited 𝓤 H (Door 𝓤 H (𝓖 .A) (𝓜 .mem) (𝓡 .run)) 𝓜 𝓡 code.env #g g-def.routine code.calls-stats·door·record-fills (g-thm.met 𝓤 H 𝓜 𝓖 𝓡)))

@@ -1,3 +1,4 @@
+-- `calls::enter` meets its contract. Assumes nothing.
 use mathlib.Core.Path.{refl}
 use borrow.Author.Tests.{not-true, not-false}
 use Rattle.calls.specs.Calls.{broken, performed}
@@ -6,55 +7,42 @@ use borrow.Author.Needs.{needs}
 use Rattle.calls.proofs.enter.Statement.{statement}
 use Rattle.calls.proofs.enter.Tie as tie
 
--- src/lib.rt:165:9
 is-whole-requires : tie.Need-is-whole-requires
 is-whole-requires c κs = search needs
 
--- src/lib.rt:166:9
 same-length : tie.Need-same-length
 same-length c = search needs
 
--- src/lib.rt:166:9
 same-length-2 : tie.Need-same-length-2
 same-length-2 c = search needs
 
--- src/lib.rt:166:9
 same-length-3 : tie.Need-same-length-3
 same-length-3 c = search needs
 
--- src/lib.rt:166:9
 same-length-4 : tie.Need-same-length-4
 same-length-4 c = search needs
 
--- src/lib.rt:166:9
 returns : tie.Need-returns
 returns c = broken (λ w. c .before .is-whole .ensures .nay (not-true _ (c .if1 .taken)) w) refl refl refl refl
 
--- src/lib.rt:172:5
 order-requires : tie.Need-order-requires
 order-requires c κs = whole-sound (c .before .before .before .before .before .before .is-whole .ensures .yea (not-false _ (c .before .before .before .before .before .if1 .left)))
 
--- src/lib.rt:150:1
 same-length-5 : tie.Need-same-length-5
 same-length-5 c = search needs
 
--- src/lib.rt:150:1
 same-length-6 : tie.Need-same-length-6
 same-length-6 c = search needs
 
--- src/lib.rt:150:1
 same-length-7 : tie.Need-same-length-7
 same-length-7 c = search needs
 
--- src/lib.rt:150:1
 same-length-8 : tie.Need-same-length-8
 same-length-8 c = search needs
 
--- src/lib.rt:150:1
 same-length-9 : tie.Need-same-length-9
 same-length-9 c = search needs
 
--- src/lib.rt:150:1
 returns-2 : tie.Need-returns-2
 returns-2 c = performed (c .before .before .before .before .before .before .before .before .before .before .before .before .before .before .before .before .before .is-whole .ensures .yea (not-false _ (c .before .before .before .before .before .before .before .before .before .before .before .before .before .before .before .before .if1 .left))) (performs-whole (c .before .before .before .before .before .before .before .before .before .before .order .ensures))
 

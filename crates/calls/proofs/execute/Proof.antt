@@ -1,77 +1,57 @@
+-- `calls::execute` meets its contract. Assumes nothing.
 use mathlib.Core.Path.{_∙_, ap, sym}
-use Rattle.models.specs.Rows.{fillRow, places}
+use Rattle.rows.specs.Rows.{fillRow, places}
 use Rattle.calls.specs.Calls.{callFor}
 use Rattle.calls.proofs.Answering.{executes-as, cancels-beside}
 use borrow.Author.Needs.{needs}
 use Rattle.calls.proofs.execute.Statement.{statement}
 use Rattle.calls.proofs.execute.Tie as tie
-use Rattle.calls.proofs.execute.Reads as reads
-use Rattle.calls.proofs.execute.Lts as lts
-use Rattle.calls.proofs.cancel.Reads as cancel-reads
-use Rattle.calls.proofs.enter.Reads as enter-reads
-use Rattle.calls.proofs.request_of.Reads as request-of-reads
 
--- src/lib.rt:191:9
 request-of-requires : tie.Need-request-of-requires
 request-of-requires c κs = search needs
 
--- src/lib.rt:193:24
 enum-known-request : tie.Need-enum-known-request
 enum-known-request c = search needs
 
--- src/lib.rt:193:30
 enter-requires : tie.Need-enter-requires
 enter-requires c κs = search needs
 
--- src/lib.rt:194:27
 enum-known-request-2 : tie.Need-enum-known-request-2
 enum-known-request-2 c = search needs
 
--- src/lib.rt:194:34
 cancel-requires : tie.Need-cancel-requires
 cancel-requires c κs = search needs
 
--- src/lib.rt:176:1
 same-length : tie.Need-same-length
 same-length c = search needs
 
--- src/lib.rt:176:1
 same-length-2 : tie.Need-same-length-2
 same-length-2 c = search needs
 
--- src/lib.rt:176:1
 same-length-3 : tie.Need-same-length-3
 same-length-3 c = search needs
 
--- src/lib.rt:176:1
 same-length-4 : tie.Need-same-length-4
 same-length-4 c = search needs
 
--- src/lib.rt:176:1
 same-length-5 : tie.Need-same-length-5
 same-length-5 c = search needs
 
--- src/lib.rt:176:1
 returns : tie.Need-returns
 returns c = let room = places fillRow (c .before .before .before .before .before .before .before .before .before .before .before .before .before .before .before .before .before .before .before .before .before .before .before .before .before .args .fills .now) in executes-as (ap (callFor room) (sym (c .before .before .before .before .before .before .before .before .before .before .before .before .before .before .before .before .before .request .given .1)) ∙ c .before .before .before .before .before .before .before .before .before .before .before .before .before .before .before .before .before .before .before .request-of .ensures room) (c .before .before .before .before .before .before .before .before .before .before .enter .ensures)
 
--- src/lib.rt:176:1
 same-length-6 : tie.Need-same-length-6
 same-length-6 c = search needs
 
--- src/lib.rt:176:1
 same-length-7 : tie.Need-same-length-7
 same-length-7 c = search needs
 
--- src/lib.rt:176:1
 same-length-8 : tie.Need-same-length-8
 same-length-8 c = search needs
 
--- src/lib.rt:176:1
 same-length-9 : tie.Need-same-length-9
 same-length-9 c = search needs
 
--- src/lib.rt:176:1
 returns-2 : tie.Need-returns-2
 returns-2 c = let room = places fillRow (c .before .before .before .before .before .before .before .before .before .before .before .before .before .before .before .before .before .before .before .before .before .before .args .fills .now) in executes-as (ap (callFor room) (sym (c .before .before .before .before .before .before .before .before .before .before .before .before .before .before .request2 .given .1)) ∙ c .before .before .before .before .before .before .before .before .before .before .before .before .before .before .before .before .request-of .ensures room) (cancels-beside (c .before .before .before .before .before .before .before .before .before .before .before .before .before .before .before .before .before .before .before .before .before .before .args .fills .now) (c .before .before .before .before .before .before .before .before .cancel .ensures))
 

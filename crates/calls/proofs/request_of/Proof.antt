@@ -1,32 +1,25 @@
+-- `calls::request_of` meets its contract. Assumes nothing.
 use mathlib.Core.Path.{ap, sym}
 use Rattle.models.specs.Readings.{callOf}
 use borrow.Author.Needs.{needs}
 use Rattle.calls.proofs.request_of.Statement.{statement}
 use Rattle.calls.proofs.request_of.Tie as tie
-use Rattle.calls.proofs.request_of.Reads as reads
-use Rattle.calls.proofs.request_of.Lts as lts
 
--- src/lib.rt:96:29
 enum-known-order : tie.Need-enum-known-order
 enum-known-order c = search needs
 
--- src/lib.rt:104:13
 enum-known-order-2 : tie.Need-enum-known-order-2
 enum-known-order-2 c = search needs
 
--- src/lib.rt:115:29
 enum-known-order-3 : tie.Need-enum-known-order-3
 enum-known-order-3 c = search needs
 
--- src/lib.rt:92:1
 returns : tie.Need-returns
 returns c = λ room. ap (callOf room) (sym (c .before .order .given .1))
 
--- src/lib.rt:92:1
 returns-2 : tie.Need-returns-2
 returns-2 c = λ room. ap (callOf room) (sym (c .before .order2 .given .1))
 
--- src/lib.rt:92:1
 returns-3 : tie.Need-returns-3
 returns-3 c = λ room. ap (callOf room) (sym (c .before .order3 .given .1))
 

@@ -1,17 +1,16 @@
 -- `ffi::felavuti_max_bid` meets its contract: the call of orderbook with the numbers read and written. Assumes nothing.
 use Rattle.ffi.proofs.Carrying.{asked}
-use borrow.Author.Needs.{needs}
 use Rattle.ffi.proofs.felavuti_max_bid.Statement.{statement}
 use Rattle.ffi.proofs.felavuti_max_bid.Tie as tie
 
 book-of-requires : tie.Need-book-of-requires
-book-of-requires c κs = search needs
+book-of-requires c κs = tt
 
 max-bid-requires : tie.Need-max-bid-requires
-max-bid-requires c κs = search needs
+max-bid-requires c κs = tt
 
 quoted-requires : tie.Need-quoted-requires
-quoted-requires c κs = search needs
+quoted-requires c κs = tt
 
 returns : tie.Need-returns
 returns c = asked (c .before .before .before .book-of .ensures) (c .before .before .max-bid .ensures) (c .before .quoted .ensures)

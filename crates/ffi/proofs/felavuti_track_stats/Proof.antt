@@ -5,7 +5,7 @@ use Rattle.ffi.proofs.felavuti_track_stats.Statement.{statement}
 use Rattle.ffi.proofs.felavuti_track_stats.Tie as tie
 
 number-of-requires : tie.Need-number-of-requires
-number-of-requires c κs = search needs
+number-of-requires c κs = tt
 
 element-write-desk : tie.Need-element-write-desk
 element-write-desk c = search needs

@@ -1,62 +1,47 @@
+-- `ledger::discard` meets its contract. Assumes nothing.
 use native.Mathlib.Omega.{arith}
 use Rattle.models.specs.Readings.{sideOf}
 use Rattle.ledger.proofs.Desk.{can-quit-ask, can-quit-bid, drop-ask, drop-bid, on-rests}
 use borrow.Author.Needs.{needs}
 use Rattle.ledger.proofs.discard.Statement.{statement}
 use Rattle.ledger.proofs.discard.Tie as tie
-use Rattle.ledger.proofs.discard.Reads as reads
-use Rattle.ledger.proofs.discard.Lts as lts
-use Rattle.ledger.proofs.quit.Reads as quit-reads
 
--- src/lib.rt:124:19
 sub-resting : tie.Need-sub-resting
 sub-resting c = let h = on-rests (c .before .before .before .before .before .pre .0) (sideOf (c .before .before .before .before .before .args .side)) (c .before .before .before .before .before .args .c) (c .before .before .before .before .before .pre .1) in omega arith
 
--- src/lib.rt:127:26
 enum-told : tie.Need-enum-told
 enum-told c = search needs
 
--- src/lib.rt:127:17
 quit-requires : tie.Need-quit-requires
 quit-requires c κs = can-quit-bid (c .before .before .before .before .before .before .before .before .before .before .pre .0) (c .before .before .before .before .before .before .before .before .before .before .args .c) (rw (c .before .before .before .enum-told .given .1) at (c .before .before .before .before .before .before .before .before .before .before .pre .1))
 
--- src/lib.rt:136:26
 enum-told-2 : tie.Need-enum-told-2
 enum-told-2 c = search needs
 
--- src/lib.rt:136:17
 quit-requires-2 : tie.Need-quit-requires-2
 quit-requires-2 c κs = can-quit-ask (c .before .before .before .before .before .before .before .before .before .before .pre .0) (c .before .before .before .before .before .before .before .before .before .before .args .c) (rw (c .before .before .before .enum-told2 .given .1) at (c .before .before .before .before .before .before .before .before .before .before .pre .1))
 
--- src/lib.rt:110:1
 same-length : tie.Need-same-length
 same-length c = search needs
 
--- src/lib.rt:110:1
 same-length-2 : tie.Need-same-length-2
 same-length-2 c = search needs
 
--- src/lib.rt:110:1
 same-length-3 : tie.Need-same-length-3
 same-length-3 c = search needs
 
--- src/lib.rt:110:1
 returns : tie.Need-returns
 returns c = rw (c .before .before .before .before .before .before .before .before .before .before .enum-told .given .1) (drop-bid (c .before .before .before .before .before .before .before .before .before .before .before .before .before .before .before .before .before .pre .0) (rw (c .before .before .before .before .before .before .before .before .before .before .enum-told .given .1) at (c .before .before .before .before .before .before .before .before .before .before .before .before .before .before .before .before .before .pre .1)) (c .before .before .before .before .before .before .quit .ensures))
 
--- src/lib.rt:110:1
 same-length-4 : tie.Need-same-length-4
 same-length-4 c = search needs
 
--- src/lib.rt:110:1
 same-length-5 : tie.Need-same-length-5
 same-length-5 c = search needs
 
--- src/lib.rt:110:1
 same-length-6 : tie.Need-same-length-6
 same-length-6 c = search needs
 
--- src/lib.rt:110:1
 returns-2 : tie.Need-returns-2
 returns-2 c = rw (c .before .before .before .before .before .before .before .before .before .before .enum-told2 .given .1) (drop-ask (c .before .before .before .before .before .before .before .before .before .before .before .before .before .before .before .before .before .pre .0) (rw (c .before .before .before .before .before .before .before .before .before .before .enum-told2 .given .1) at (c .before .before .before .before .before .before .before .before .before .before .before .before .before .before .before .before .before .pre .1)) (c .before .before .before .before .before .before .quit2 .ensures))
 

@@ -1,49 +1,37 @@
+-- `ledger::front` meets its contract. Assumes nothing.
 use native.Mathlib.Omega.{arith}
-use mathlib.Core.Path.{sym, ap}
 use Rattle.ledger.proofs.Best.{front-at}
 use borrow.Author.Needs.{needs}
 use Rattle.ledger.proofs.front.Statement.{statement}
 use Rattle.ledger.proofs.front.Tie as tie
-use Rattle.ledger.proofs.front.Reads as reads
-use Rattle.ledger.proofs.front.Lts as lts
 
--- src/lib.rt:190:28
 enum-told : tie.Need-enum-told
 enum-told c = search needs
 
--- src/lib.rt:190:28
 sub-result : tie.Need-sub-result
 sub-result c = omega (arith, front-at (c .before .before .before .args .b) (c .before .before .before .args .bids .now) (c .before .before .before .args .asks .now) (c .before .enum-told .given .1) (c .before .before .before .pre) .0)
 
--- src/lib.rt:190:27
 mul-result : tie.Need-mul-result
 mul-result c = omega (arith, front-at (c .before .before .before .args .b) (c .before .before .before .args .bids .now) (c .before .before .before .args .asks .now) (c .before .enum-told .given .1) (c .before .before .before .pre))
 
--- src/lib.rt:190:27
 add-result : tie.Need-add-result
 add-result c = omega (arith, front-at (c .before .before .before .args .b) (c .before .before .before .args .bids .now) (c .before .before .before .args .asks .now) (c .before .enum-told .given .1) (c .before .before .before .pre))
 
--- src/lib.rt:190:22
 mul-result-2 : tie.Need-mul-result-2
 mul-result-2 c = omega (arith, front-at (c .before .before .before .args .b) (c .before .before .before .args .bids .now) (c .before .before .before .args .asks .now) (c .before .enum-told .given .1) (c .before .before .before .pre))
 
--- src/lib.rt:190:22
 shared-slice-read-result : tie.Need-shared-slice-read-result
 shared-slice-read-result c = let f = front-at (c .before .before .before .before .args .b) (c .before .before .before .before .args .bids .now) (c .before .before .before .before .args .asks .now) (c .before .before .enum-told .given .1) (c .before .before .before .before .pre) in omega (arith, f .0, f .1)
 
--- src/lib.rt:191:22
 enum-told-2 : tie.Need-enum-told-2
 enum-told-2 c = search needs
 
--- src/lib.rt:191:22
 shared-slice-read-result-2 : tie.Need-shared-slice-read-result-2
 shared-slice-read-result-2 c = let f = front-at (c .before .before .before .args .b) (c .before .before .before .args .bids .now) (c .before .before .before .args .asks .now) (c .before .enum-told2 .given .1) (c .before .before .before .pre) in omega (arith, f .0, f .1)
 
--- src/lib.rt:185:1
 returns : tie.Need-returns
 returns c = rw (c .before .before .enum-told .given .1)
 
--- src/lib.rt:185:1
 returns-2 : tie.Need-returns-2
 returns-2 c = rw (c .before .enum-told2 .given .1)
 

@@ -1,3 +1,4 @@
+-- `matching::carry_out` meets its contract. Assumes nothing.
 use Prim.Native.Nat.{_-_, _≤_}
 use mathlib.Core.Logic.{⊎-elim}
 use mathlib.Core.Path.{sym, _∙_}
@@ -29,79 +30,60 @@ Inv-prices records₀ levels n t fills₀ p₀ makers k₀ records fills p k = O
 abbrev μ-prices : tie.MeasureT-prices
 μ-prices records₀ levels n t fills₀ p₀ makers k₀ records fills p k = k
 
--- src/lib.rt:95:9
 opposite-requires : tie.Need-opposite-requires Inv-loop μ-loop Inv-prices μ-prices
 opposite-requires c κs = search needs
 
--- src/lib.rt:99:9
 returns : tie.Need-returns Inv-loop μ-loop Inv-prices μ-prices
 returns c = carries (c .before .before .before .before .before .before .before .pre) (prices-idle _ _ (c .before .before .before .before .before .before .before .args .t) (prices-start _ _ (c .before .before .before .before .before .before .before .args .t) (c .before .before .before .before .before .before .before .pre)) (c .before .if1 .taken))
 
--- src/lib.rt:101:5
 prices-holds : tie.Need-prices-holds Inv-loop μ-loop Inv-prices μ-prices
 prices-holds c = (prices-start _ _ _ (c .before .before .before .before .before .before .pre), omega (arith, c .if1 .left))
 
--- src/lib.rt:102:18
 visit-requires : tie.Need-visit-requires Inv-loop μ-loop Inv-prices μ-prices
 visit-requires c κs = search needs
 
--- src/lib.rt:102:18
 mul-at : tie.Need-mul-at Inv-loop μ-loop Inv-prices μ-prices
 mul-at c = search needs
 
--- src/lib.rt:103:30
 mul-c : tie.Need-mul-c Inv-loop μ-loop Inv-prices μ-prices
 mul-c c = search needs
 
--- src/lib.rt:103:30
 shared-slice-read-c : tie.Need-shared-slice-read-c Inv-loop μ-loop Inv-prices μ-prices
 shared-slice-read-c c = search needs
 
--- src/lib.rt:103:13
 reaches-requires : tie.Need-reaches-requires Inv-loop μ-loop Inv-prices μ-prices
 reaches-requires c κs = search needs
 
--- src/lib.rt:106:28
 add-c : tie.Need-add-c Inv-loop μ-loop Inv-prices μ-prices
 add-c c = search needs
 
--- src/lib.rt:106:21
 mul-c-2 : tie.Need-mul-c-2 Inv-loop μ-loop Inv-prices μ-prices
 mul-c-2 c = search needs
 
--- src/lib.rt:106:21
 shared-slice-read-c-2 : tie.Need-shared-slice-read-c-2 Inv-loop μ-loop Inv-prices μ-prices
 shared-slice-read-c-2 c = search needs
 
--- src/lib.rt:107:9
 loop-holds : tie.Need-loop-holds Inv-loop μ-loop Inv-prices μ-prices
 loop-holds c = (queue-start _ _ _ (c .before .before .before .before .before .before .prices .inv .0) (c .before .before .before .before .before .prices-test .taken) (rw (c .before .before .before .before .before .before .before .before .before .opposite .ensures) at (c .before .before .before .before .visit .ensures .0)) (c .before .before .before .before .visit .ensures .1) (sym (c .before .before .reaches .ensures) ∙ not-false _ (c .before .if2 .left)), c .before .before .before .before .before .before .prices .inv .1)
 
--- src/lib.rt:108:17
 load-requires : tie.Need-load-requires Inv-loop μ-loop Inv-prices μ-prices
 load-requires c κs = (omega arith, queue-row _ _ _ (c .before .before .loop .inv .0) (omega arith))
 
--- src/lib.rt:109:13
 give-requires : tie.Need-give-requires Inv-loop μ-loop Inv-prices μ-prices
 give-requires c κs = (queue-row _ _ _ (c .before .before .before .before .before .loop .inv .0) (omega arith), queue-place _ _ _ (c .before .before .before .before .before .loop .inv .0) (omega arith) (c .before .before .before .before .before .loop .inv .1))
 
--- src/lib.rt:107:9
 loop-less : tie.Need-loop-less Inv-loop μ-loop Inv-prices μ-prices
 loop-less c = queue-less _ _ _ (c .before .before .before .before .before .before .before .before .before .before .before .before .loop .inv .0) (omega arith) (c .before .before .before .before .before .before .before .before .before .before .before .before .loop .inv .1) (c .before .before .before .before .before .before .give .ensures .progress)
 
--- src/lib.rt:107:9
 loop-again : tie.Need-loop-again Inv-loop μ-loop Inv-prices μ-prices
 loop-again c = (queue-next _ _ _ (c .before .before .before .before .before .before .before .before .before .before .before .before .loop .inv .0) (omega arith) (c .before .before .before .before .before .before .before .before .before .before .before .before .loop .inv .1) (c .before .before .before .before .before .before .give .ensures) (c .before .before .before .before .before .before .before .before .before .load .ensures), omega (arith, c .if3 .left))
 
--- src/lib.rt:115:9
 sub-k : tie.Need-sub-k Inv-loop μ-loop Inv-prices μ-prices
 sub-k c = search needs
 
--- src/lib.rt:101:5
 prices-less : tie.Need-prices-less Inv-loop μ-loop Inv-prices μ-prices
 prices-less c = search needs
 
--- src/lib.rt:101:5
 prices-again : tie.Need-prices-again Inv-loop μ-loop Inv-prices μ-prices
 prices-again c = (prices-next _ _ _ (c .before .before .before .before .before .before .before .before .prices .inv .0) (omega arith) (c .before .loop .inv .0), c .before .loop .inv .1)
 
@@ -119,15 +101,12 @@ over c =
     (λ w. done-as _ _ _ (w .19) (w .20) (w .21) (prices-full _ _ _ o (w .18 .taken) (queue-next _ _ _ (w .6 .inv .0) (omega (arith, w .7 .taken)) (w .6 .inv .1) (w .12 .ensures) (w .9 .ensures)))))
     (c .prices-test .came)
 
--- src/lib.rt:82:1
 same-length : tie.Need-same-length Inv-loop μ-loop Inv-prices μ-prices
 same-length c = over (c .before) .long
 
--- src/lib.rt:82:1
 same-length-2 : tie.Need-same-length-2 Inv-loop μ-loop Inv-prices μ-prices
 same-length-2 c = over (c .before) .wide
 
--- src/lib.rt:82:1
 returns-2 : tie.Need-returns-2 Inv-loop μ-loop Inv-prices μ-prices
 returns-2 c = carries (c .before .before .before .before .before .before .before .before .before .pre) (over (c .before))
 

@@ -1,16 +1,14 @@
+-- `order::totals` meets its contract. Assumes nothing.
 use borrow.Author.Needs.{needs}
 use Rattle.order.proofs.totals.Statement.{statement}
 use Rattle.order.proofs.totals.Tie as tie
 
--- src/lib.rt:41:26
 sub-exact : tie.Need-sub-exact
 sub-exact c = search needs
 
--- src/lib.rt:41:9
 exact-requires : tie.Need-exact-requires
 exact-requires c κs = search needs
 
--- src/lib.rt:36:1
 returns : tie.Need-returns
 returns c = cc
 

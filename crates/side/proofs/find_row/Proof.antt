@@ -7,9 +7,6 @@ use Rattle.side.proofs.Shift.{bracket-start}
 use borrow.Author.Needs.{needs}
 use Rattle.side.proofs.find_row.Statement.{statement}
 use Rattle.side.proofs.find_row.Tie as tie
-use Rattle.side.proofs.find_row.Reads as reads
-use Rattle.side.proofs.find_row.Lts as lts
-use Rattle.side.proofs.halve.Reads as halve-reads
 
 abbrev Inv-loop : tie.InvT-loop
 Inv-loop levels n price s₀ s = Bracket levels n (price .0) (s .lo) (s .hi)

@@ -4,8 +4,6 @@ use Rattle.side.proofs.Shift.{bracket-down, bracket-up}
 use borrow.Author.Needs.{needs}
 use Rattle.side.proofs.halve.Statement.{statement}
 use Rattle.side.proofs.halve.Tie as tie
-use Rattle.side.proofs.halve.Reads as reads
-use Rattle.side.proofs.halve.Lts as lts
 
 sub-m : tie.Need-sub-m
 sub-m c = search needs

@@ -8,8 +8,6 @@ use Rattle.side.proofs.Shift.{Moved, moved-start, moved-step, opened}
 use borrow.Author.Needs.{needs}
 use Rattle.side.proofs.open_row.Statement.{statement}
 use Rattle.side.proofs.open_row.Tie as tie
-use Rattle.side.proofs.open_row.Reads as reads
-use Rattle.side.proofs.open_row.Lts as lts
 
 abbrev Inv-loop : tie.InvT-loop
 Inv-loop levels₀ n k price from j₀ levels j = (from ≤ j) × (j ≤ n * 3) × (length levels ≡ length levels₀) × Moved levels₀ (n * 3) j levels

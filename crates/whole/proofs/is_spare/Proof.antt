@@ -3,7 +3,7 @@ use native.Mathlib.Omega.{arith}
 use borrow.Author.Tests.{not-true, not-false}
 use mathlib.Core.Path.{refl, sym, _∙_, _≡_}
 use Rattle.records.proofs.Rows.{row-places}
-use Rattle.whole.specs.Check.{idles}
+use Rattle.whole.specs.Spare.{idles}
 use Rattle.whole.proofs.Spare.{idle-is, idles-end, idles-short, idles-wrong, idles-turn}
 use Rattle.whole.proofs.is_spare.Statement.{statement}
 use Rattle.whole.proofs.is_spare.Tie as tie
