@@ -1,6 +1,8 @@
 -- `survey::survey` meets its contract. Assumes nothing.
+use mathlib.Core.Path.{ap, sym, _∙_}
+use Rattle.rules.specs.Rules.{Side}
+use Rattle.side.specs.Prices.{rowInTurn}
 use Prim.Native.Nat.{_-_, _≤_}
-use mathlib.Core.Path.{sym, _∙_}
 use native.Mathlib.Omega.{arith}
 use borrow.Author.Tests.{not-false, not-true}
 use Rattle.sums.specs.Sums.{capped}
@@ -57,7 +59,7 @@ shared-slice-read-c-2 : tie.Need-shared-slice-read-c-2 Inv-loop μ-loop Inv-pric
 shared-slice-read-c-2 c = search needs
 
 loop-holds : tie.Need-loop-holds Inv-loop μ-loop Inv-prices μ-prices
-loop-holds c = (queue-start _ _ _ _ (c .before .before .before .before .before .before .before .before .before .before .before .before .pre) (c .before .before .before .before .before .before .prices .inv .0) (c .before .before .before .before .before .prices-test .taken) (rw (c .before .before .before .before .before .before .before .before .before .opposite .ensures) at (c .before .before .before .before .visit .ensures .0)) (c .before .before .before .before .visit .ensures .1) (sym (c .before .before .reaches .ensures) ∙ not-false _ (c .before .if2 .left)) (c .before .before .before .before .before .before .prices .inv .1), c .before .before .before .before .before .before .prices .inv .2)
+loop-holds c = (queue-start _ _ _ _ (c .before .before .before .before .before .before .before .before .before .before .before .before .pre) (c .before .before .before .before .before .before .prices .inv .0) (c .before .before .before .before .before .prices-test .taken) (c .before .before .before .before .visit .ensures .0 ∙ ap (λ (v : Side). rowInTurn v (c .before .before .before .before .before .before .before .before .before .before .before .before .args .n) (c .before .before .before .before .before .before .prices .k)) (c .before .before .before .before .before .before .before .before .before .opposite .ensures)) (c .before .before .before .before .visit .ensures .1) (sym (c .before .before .reaches .ensures) ∙ not-false _ (c .before .if2 .left)) (c .before .before .before .before .before .before .prices .inv .1), c .before .before .before .before .before .before .prices .inv .2)
 
 meet-requires : tie.Need-meet-requires Inv-loop μ-loop Inv-prices μ-prices
 meet-requires c κs = (queue-row _ _ _ _ (c .before .before .before .before .before .before .before .before .before .before .before .before .before .before .pre) (omega arith) (c .before .loop .inv .0), c .before .loop .inv .1, omega (arith, c .before .loop .inv .0 .along .count), c .before .loop .inv .0 .along .fewer)
@@ -84,7 +86,7 @@ returns-2 : tie.Need-returns-2 Inv-loop μ-loop Inv-prices μ-prices
 returns-2 c = prices-none _ _ _ _ (c .before .before .before .before .before .before .before .pre) (c .before .prices .inv .0) (omega arith) (c .before .prices .inv .1)
 
 returns-3 : tie.Need-returns-3 Inv-loop μ-loop Inv-prices μ-prices
-returns-3 c = prices-beyond _ _ _ _ (c .before .before .before .before .before .before .before .before .before .before .before .pre) (c .before .before .before .before .before .prices .inv .0) (c .before .before .before .before .prices-test .taken) (rw (c .before .before .before .before .before .before .before .before .opposite .ensures) at (c .before .before .before .visit .ensures .0)) (c .before .before .before .visit .ensures .1) (sym (c .before .reaches .ensures) ∙ not-true _ (c .if2 .taken)) (c .before .before .before .before .before .prices .inv .1)
+returns-3 c = prices-beyond _ _ _ _ (c .before .before .before .before .before .before .before .before .before .before .before .pre) (c .before .before .before .before .before .prices .inv .0) (c .before .before .before .before .prices-test .taken) (c .before .before .before .visit .ensures .0 ∙ ap (λ (v : Side). rowInTurn v (c .before .before .before .before .before .before .before .before .before .before .before .args .n) (c .before .before .before .before .before .prices .k)) (c .before .before .before .before .before .before .before .before .opposite .ensures)) (c .before .before .before .visit .ensures .1) (sym (c .before .reaches .ensures) ∙ not-true _ (c .if2 .taken)) (c .before .before .before .before .before .prices .inv .1)
 
 returns-4 : tie.Need-returns-4 Inv-loop μ-loop Inv-prices μ-prices
 returns-4 c = rw (c .before .before .meet .ensures) (queue-full _ _ _ _ (c .before .before .before .before .before .before .before .before .before .before .before .before .before .before .before .before .before .pre) (rw (c .before .before .meet .ensures) at (c .if3 .taken)) (queue-next _ _ _ _ (c .before .before .before .before .before .before .before .before .before .before .before .before .before .before .before .before .before .pre) (omega arith) (c .before .before .before .before .loop .inv .0) (c .before .before .before .before .loop .inv .1)))
