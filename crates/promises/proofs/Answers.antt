@@ -2,11 +2,11 @@
 -- Assumes nothing.
 use Prim.Native.Nat.{ℕ}
 use native.Mathlib.Omega.{arith}
-use mathlib.Core.Path.{_≡_, refl, sym, ap, _∙_}
+use mathlib.Core.Path.{_≡_, refl, ap}
 use mathlib.Core.List.{List}
 use mathlib.Core.Option.{Option, none, some}
 use Rattle.rules.specs.Rules as rule
-use Rattle.models.proofs.Readings.{event-same}
+use Rattle.models.proofs.Readings.{event-same, same}
 use Rattle.depth.specs.declared.Found.{Found}
 use Rattle.depth.specs.declared.Found.the-variants.{At, Nothing}
 use Rattle.depth.specs.declared.Quote.{Quote}
@@ -27,13 +27,10 @@ use Rattle.models.specs.Readings.{Reading, number, value}
 use Rattle.questions.specs.Answers.{quotedOf, deepOf, gotOf}
 use Rattle.calls.specs.Calls.{openingOf}
 
--- a way back from the readings shows it; from a `Reading`, by its two cases
+-- a way back from the readings shows it (`same`); from a `Reading`, by its two cases
 fromReading : {A X : Type 0} → (ℕ → A) → (X → A) → Reading X → A
 fromReading f g (number n) = f n
 fromReading f g (value x) = g x
-
-same : {A B : Type 0} (f : A → B) (g : B → A) → ((a : A) → g (f a) ≡ a) → (a b : A) → f a ≡ f b → a ≡ b
-same f g back a b e = sym (back a) ∙ (ap g e ∙ back b)
 
 -- ## orders and cancels
 

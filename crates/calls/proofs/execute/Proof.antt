@@ -1,4 +1,4 @@
--- `calls::execute` meets its contract. Assumes nothing.
+-- `calls::execute` is `enter` or `cancel`, by what the order asks. Assumes nothing.
 use mathlib.Core.Path.{_∙_, ap, sym}
 use Rattle.rows.specs.Rows.{fillRow, places}
 use Rattle.calls.specs.Calls.{callFor}

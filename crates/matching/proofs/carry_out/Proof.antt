@@ -1,4 +1,4 @@
--- `matching::carry_out` meets its contract. Assumes nothing.
+-- `carry_out` does what the rules say. Each turn of its two loops, and each way out, is a law of Passing. Assumes nothing.
 use Prim.Native.Nat.{_-_, _≤_}
 use mathlib.Core.Logic.{⊎-elim}
 use mathlib.Core.Path.{sym, _∙_}

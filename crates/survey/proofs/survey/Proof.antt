@@ -1,4 +1,4 @@
--- `survey::survey` meets its contract. Assumes nothing.
+-- `survey` comes to what the rules say the order would do. Each turn of its two loops, and each way out, is a law of Walk. Assumes nothing.
 use mathlib.Core.Path.{ap, sym, _∙_}
 use Rattle.rules.specs.Rules.{Side}
 use Rattle.side.specs.Prices.{rowInTurn}

@@ -1,4 +1,4 @@
--- `trade::leave` meets its contract. Assumes nothing.
+-- `leave` lets the best order of a side go. Assumes nothing.
 use Rattle.models.specs.Readings.{sideOf}
 use Rattle.trade.proofs.Leaving.{front-goes, front-row, front-there, leaves-as}
 use borrow.Author.Needs.{needs}
