@@ -1,6 +1,6 @@
-/* The desk of the base for C: 1,024 resting orders, 128 prices a side. Link target/staticlib/libffi.a (`rt staticlib ffi`). x86-64.
+/* The desk of the base for C: 1,024 resting orders, 128 prices a side; and orders on a tape. Link target/staticlib/libffi.a (`rt staticlib ffi`). x86-64.
  *
- * Storage is lent, and the caller owns it. The numbers that every call takes:
+ * Storage is lent, and the caller owns it. The numbers that every call on a book takes:
  *
  *   desk      12 numbers: the small values of a book.
  *               [0] resting orders    [1] code of the first free record (0: none)    [2] bid rows    [3] ask rows
@@ -28,7 +28,11 @@
  *   5  a remainder would rest at a price new to its side, and that side has 128
  *   6  depth needs more places than lent
  *   7  a level's total exceeds 2^64 - 1
- *   10 the side is neither 0 nor 1 (looked at before anything else)
+ *   8  the tag of a tape's field, or the kind of an order to be written, is none of 1, 2 and 3
+ *   9  a field's length isn't that of its tag
+ *   10 the side is neither 0 nor 1 (for an order on a book, looked at before anything else)
+ *   11 the tape ends within a field
+ *   19 an order's field is longer than the room lent for it
  */
 #ifndef FELAVUTI_H
 #define FELAVUTI_H
@@ -41,10 +45,13 @@
 #define FELAVUTI_LEVELS 384
 #define FELAVUTI_PLACES 2048
 #define FELAVUTI_ANSWER 4
-#define FELAVUTI_FILL 5  /* numbers in a fill's row */
-#define FELAVUTI_LEVEL 2 /* numbers in a row of depth */
+#define FELAVUTI_FILL 5   /* numbers in a fill's row */
+#define FELAVUTI_LEVEL 2  /* numbers in a row of depth */
+#define FELAVUTI_ORDER 6  /* numbers in an order of a tape */
+#define FELAVUTI_FIELD 28 /* bytes in the longest field, a limit order's */
 
 enum { FELAVUTI_BID = 0, FELAVUTI_ASK = 1 };
+enum { FELAVUTI_END = 0, FELAVUTI_MARKET = 1, FELAVUTI_LIMIT = 2, FELAVUTI_CANCEL = 3 };
 enum { FELAVUTI_UNFILLED = 0, FELAVUTI_PLACED = 1, FELAVUTI_CANCELED = 2, FELAVUTI_PARTIALLY_FILLED = 3, FELAVUTI_FILLED = 4 };
 
 #ifdef __cplusplus
@@ -98,6 +105,24 @@ uint64_t felavuti_check(size_t orders, size_t prices, const uint64_t desk[12], c
 
 /* Switches tracking: desk[4] becomes 0 where on is 0, and 1 otherwise; nothing else changes. Never refused: it returns 0. */
 uint64_t felavuti_track_stats(uint64_t desk[12], uint64_t on);
+
+/* Orders on a tape. Each is a field: a tag of one byte, a length of two, and its numbers, every one high byte first.
+ *   tag 1, market   id 8 bytes, side 1 (0 bid, 1 ask), quantity 8: length 17
+ *   tag 2, limit    the same, then price 8: length 25
+ *   tag 3, cancel   id 8: length 8
+ * An order is 6 numbers: [0] kind, which is its tag (FELAVUTI_MARKET ..; FELAVUTI_END where there is none)    [1] id    [2] side    [3] quantity
+ *   [4] price    [5] the place behind its field. A number that the kind doesn't have is read as 0, and not looked at when the order is written.
+ * `at` is a place of the tape, a count of bytes from its beginning, and may be any. */
+
+/* What stands at a place of a tape: an order, or the end, with kind 0, the next four numbers 0, and `at` as the place; past the end of the bytes is the
+ * end too. All 6 numbers are written. A tape is read by starting at 0 and going on at order[5] until order[0] is 0. Refused, checked in this order, with 11
+ * where one or two bytes are left, 8, 9, 11 where the value is cut off, 10 (a cancel has no side); the bad field begins at `at`, and `order` is as it was. */
+uint64_t felavuti_read_order(const uint8_t *tape, size_t tape_len, size_t at, uint64_t order[6]);
+
+/* Writes an order at a place of a tape. order[5], whatever it was, becomes the place behind its field; the order's other numbers, and the bytes before and
+ * behind the field, keep their values. What is written reads back as the same order. Refused, checked in this order, with 8, 10 (not for a cancel), 19, and
+ * then neither the tape nor `order` has changed. */
+uint64_t felavuti_write_order(uint8_t *tape, size_t tape_len, size_t at, uint64_t order[6]);
 
 #ifdef __cplusplus
 }

@@ -6,10 +6,13 @@ use crate::plain::Plain;
 use crate::random::Random;
 use crate::shapes::{named, Draw};
 use crate::step::{limit, market, Step};
+use crate::tapes;
 use felavuti::{FillRow, OrderBook, OrderType, Side, Size, ORDERS, PLACES, PRICES};
 use std::fmt::Write as _;
 use std::hint::black_box;
+use std::io::Write as _;
 use std::path::Path;
+use std::process::{Command, Stdio};
 use std::time::Instant;
 
 const SEED: u64 = 1;
@@ -110,6 +113,75 @@ fn shape(plan: &Plan, name: &str) -> String {
     let [ratio, lent_ratio] = ratios.map(median);
     println!("  {name:14} ours {plain:8.0} ns, lent {lent:8.0} ns, lobster {lobster:8.0} ns an order, ratio {ratio:.2}");
     format!("| {name} | {plain:.0} | {lent:.0} | {lobster:.0} | **{ratio:.2}** | {least:.2} to {most:.2} | {lent_ratio:.2} |\n")
+}
+
+/// Processor time in nanoseconds of the programs that were run and have ended.
+#[cfg(target_os = "linux")]
+fn programs_time() -> f64 {
+    const OF_ENDED_CHILDREN: i32 = -1;
+    extern "C" {
+        fn getrusage(who: i32, usage: *mut [i64; 18]) -> i32;
+    }
+    let mut usage = [0; 18];
+    // Sound: the C library writes two times, each of seconds and microseconds, and fourteen numbers, all of 64 bits.
+    unsafe { getrusage(OF_ENDED_CHILDREN, &mut usage) };
+    (usage[0] + usage[2]) as f64 * 1e9 + (usage[1] + usage[3]) as f64 * 1e3
+}
+
+#[cfg(not(target_os = "linux"))]
+fn programs_time() -> f64 {
+    processor_time()
+}
+
+/// One shape as a tape in a file: the program felavuti; its reading alone, by the library; and lobster, which reads the same bytes
+/// and makes the same text.
+fn tape(plan: &Plan, name: &str, program: &Path, path: &Path) -> Result<String, String> {
+    let said = |error: std::io::Error| format!("{}: {error}", path.display());
+    let (_, ours) = orders(name, plan.orders);
+    let bytes: Vec<u8> = ours.iter().flat_map(|&order| tapes::field(order)).collect();
+    std::fs::write(path, &bytes).map_err(said)?;
+    let mut times = [vec![], vec![], vec![]];
+    let mut ratios = vec![];
+    for _ in 0..plan.repetitions {
+        let start = programs_time();
+        let ended = Command::new(program).arg(path).stdout(Stdio::null()).status().map_err(said)?;
+        let felavuti = (programs_time() - start) / ours.len() as f64;
+        if !ended.success() {
+            return Err(format!("felavuti on {}: {ended}", path.display()));
+        }
+        let reading = worked(ours.len(), || hold(felavuti::tape::Orders::new(&bytes).filter(Result::is_ok).count()));
+        let mut out = std::fs::File::create("/dev/null").map_err(said)?;
+        let mut result = Ok(());
+        let lobster = worked(ours.len(), || {
+            let bytes = std::fs::read(path).unwrap_or_default();
+            result = out.write_all(tapes::lobsters_text(&bytes).as_bytes());
+        });
+        result.map_err(said)?;
+        for (list, time) in times.iter_mut().zip([felavuti, reading, lobster]) {
+            list.push(time);
+        }
+        ratios.push(felavuti / lobster);
+    }
+    let (least, most) = (ratios.iter().copied().fold(f64::MAX, f64::min), ratios.iter().copied().fold(0.0, f64::max));
+    let [felavuti, reading, lobster] = times.map(median);
+    let (ratio, rate) = (median(ratios), 1e3 / felavuti);
+    println!("  {name:14} felavuti {felavuti:6.0} ns, its reading {reading:4.0} ns, lobster {lobster:6.0} ns an order, ratio {ratio:.2}");
+    Ok(format!(
+        "| {name} | {felavuti:.0} | {rate:.1} | {reading:.0} | {lobster:.0} | **{ratio:.2}** | {least:.2} to {most:.2} |\n"
+    ))
+}
+
+/// The program felavuti on tapes, next to lobster on the same bytes.
+pub fn of_tapes(plan: &Plan) -> Result<String, String> {
+    let program = tapes::program()?;
+    let path = std::env::temp_dir().join(format!("felavuti-bench-{}", std::process::id()));
+    let rows: Result<String, String> = SHAPES.iter().map(|name| tape(plan, name, &program, &path)).collect();
+    let _ = std::fs::remove_file(&path);
+    Ok(format!(
+        "{} orders a shape, seed {SEED}, median of {} repetitions\n\n| shape | felavuti | million orders a second | its reading | lobster | ratio | from, to |\n\
+         |---|---|---|---|---|---|---|\n{}",
+        plan.orders, plan.repetitions, rows?
+    ))
 }
 
 /// A desk that is timed.

@@ -21,6 +21,7 @@ mod script;
 mod shapes;
 mod step;
 mod stored;
+mod tapes;
 mod whole;
 
 use std::path::{Path, PathBuf};
@@ -30,6 +31,8 @@ const HELP: &str = "\
 compare [quick]                      some seconds of everything below but speed; exit status above 0 on any difference
 compare histories [--orders N] [--seed S] [--shape NAME [--history K]] [--threads T]
                                      random histories; N counts compared steps over all shapes
+compare tapes [--orders N] [--seed S] [--shape NAME [--history K]]
+                                     random histories as tapes through the program felavuti, its text against lobster's answers
 compare refused [--rounds N] [--seed S]
                                      refused calls: short buffers, damaged books, wrong lengths
 compare whole [--books N] [--seed S]
@@ -43,6 +46,8 @@ compare bench [--out DIR] [--orders N] [--repetitions R]
                                      speed: bench.md, growth.csv and plots
 compare bench check [--repetitions R]
                                      speed of the check of a whole book alone
+compare bench tapes [--orders N] [--repetitions R]
+                                     speed of the program felavuti on tapes
 compare plot DIR                     the plots again, from DIR/growth.csv
 compare try 'limit ask 1 10 105; market bid 2 5; depth 1'
                                      lobster and ours on a script of your own
@@ -79,10 +84,11 @@ fn quick(words: &[String]) -> Result<bool, String> {
     stored::run(REPLAY.as_ref(), true)?;
     let examples = examples::run();
     let histories = histories::run(&histories_plan(words, 220_000)?);
+    let tapes = tapes::run(&histories_plan(words, 200_000)?)?;
     let refused = refused::run(number(words, "--seed", 1)?, 2_000);
     let whole = check::run(number(words, "--seed", 1)?, 200);
     let gaps = gaps::run(true);
-    Ok(examples && histories && refused && whole && gaps)
+    Ok(examples && histories && tapes && refused && whole && gaps)
 }
 
 fn bench_folder(words: &[String]) -> Result<PathBuf, String> {
@@ -98,6 +104,7 @@ fn done(words: &[String]) -> Result<bool, String> {
     match words.first().map(String::as_str) {
         None | Some("quick") => quick(words),
         Some("histories") => Ok(histories::run(&histories_plan(words, 1_000_000)?)),
+        Some("tapes") => tapes::run(&histories_plan(words, 1_000_000)?),
         Some("refused") => Ok(refused::run(number(words, "--seed", 1)?, number(words, "--rounds", 20_000)?)),
         Some("whole") => Ok(check::run(number(words, "--seed", 1)?, number(words, "--books", 500)?)),
         Some("examples") => Ok(examples::run()),
@@ -112,6 +119,10 @@ fn done(words: &[String]) -> Result<bool, String> {
             let repetitions = number(words, "--repetitions", 7)? as usize;
             if words.get(1).is_some_and(|word| word == "check") {
                 print!("{}", bench::checks(40 * repetitions));
+                return Ok(true);
+            }
+            if words.get(1).is_some_and(|word| word == "tapes") {
+                print!("{}", bench::of_tapes(&bench::Plan { orders, repetitions })?);
                 return Ok(true);
             }
             bench::run(&bench::Plan { orders, repetitions }, &bench_folder(words)?).map(|()| true)

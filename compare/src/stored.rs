@@ -118,7 +118,8 @@ fn text(steps: &[Step]) -> String {
     out
 }
 
-fn event(event: lobster::OrderEvent) -> String {
+/// An event of lobster's with its fills, a line each.
+pub fn event(event: lobster::OrderEvent) -> String {
     use lobster::OrderEvent::{Canceled, Filled, PartiallyFilled, Placed, Unfilled};
     let filled = |name: &str, id: u128, qty: u64, fills: Vec<lobster::FillMetadata>| {
         let mut out = format!("{name} {id} {qty} {}\n", fills.len());

@@ -47,7 +47,7 @@
 //! | no public search by id | [`OrderBook::get`] |
 //!
 //! All other names, fields and answers are lobster's. Programs that must not allocate use [`OrderBook::execute_into`]. Programs
-//! that keep the book's numbers themselves use [`Stored`].
+//! that keep the book's numbers themselves use [`Stored`]. Orders are read from bytes and written to bytes by [`tape`].
 
 #![warn(missing_docs)]
 
@@ -55,6 +55,7 @@ mod models;
 mod orderbook;
 mod refusal;
 mod stored;
+pub mod tape;
 
 pub use models::{Answer, BookDepth, BookLevel, EventKind, FillMetadata, FillRow, Found, OrderEvent, OrderType, Side, Trade};
 pub use orderbook::OrderBook;

@@ -3,7 +3,7 @@
 use std::fmt;
 
 /// Why a call was refused. A refused call changes nothing: book, statistics and buffers keep their values. Where several are due,
-/// the lowest number is given.
+/// the lowest number is given; a tape's fields have an order of their own, see [`BadField`](crate::tape::BadField).
 ///
 /// ```
 /// use felavuti::{OrderBook, OrderType, Refusal, Side};
@@ -39,8 +39,16 @@ pub enum Refusal {
     TooManyLevels,
     /// 7: a level's total exceeds 2^64 - 1.
     LevelTooLarge,
-    /// 10: the side is neither 0 nor 1, which only a [`Stored`](crate::Stored) can be asked for.
+    /// 8: a field's tag is none of 1, 2 and 3.
+    UnknownTag,
+    /// 9: a field's length isn't that of its tag.
+    WrongLength,
+    /// 10: the side is neither 0 nor 1, which only a [`Stored`](crate::Stored) can be asked for, or a tape can hold.
     NoSuchSide,
+    /// 11: the tape ends within a field.
+    CutOff,
+    /// 19: an order's field is longer than the room lent for it. [`tape::push`](crate::tape::push) makes enough.
+    ShortRoom,
     /// Any other number. The library has none.
     Other(u64),
 }
@@ -64,7 +72,11 @@ impl Refusal {
             5 => Refusal::SideFull,
             6 => Refusal::TooManyLevels,
             7 => Refusal::LevelTooLarge,
+            8 => Refusal::UnknownTag,
+            9 => Refusal::WrongLength,
             10 => Refusal::NoSuchSide,
+            11 => Refusal::CutOff,
+            19 => Refusal::ShortRoom,
             other => Refusal::Other(other),
         })
     }
@@ -79,16 +91,18 @@ impl Refusal {
             Refusal::SideFull => 5,
             Refusal::TooManyLevels => 6,
             Refusal::LevelTooLarge => 7,
+            Refusal::UnknownTag => 8,
+            Refusal::WrongLength => 9,
             Refusal::NoSuchSide => 10,
+            Refusal::CutOff => 11,
+            Refusal::ShortRoom => 19,
             Refusal::Other(number) => number,
         }
     }
-}
 
-/// The number and when it is given, in the words of the desk's rules.
-impl fmt::Display for Refusal {
-    fn fmt(&self, f: &mut fmt::Formatter<'_>) -> fmt::Result {
-        let why = match self {
+    /// When it is given, in the words of the desk's rules.
+    pub(crate) fn words(self) -> &'static str {
+        match self {
             Refusal::NotWhole => "the stored book isn't whole, or storage has wrong lengths",
             Refusal::TooManyFills => "the fills outnumber the places lent for them",
             Refusal::SumTooLarge => {
@@ -98,10 +112,20 @@ impl fmt::Display for Refusal {
             Refusal::SideFull => "a remainder would rest at a price new to its side, and that side has 128",
             Refusal::TooManyLevels => "depth needs more places than lent",
             Refusal::LevelTooLarge => "a level's total exceeds 2^64 - 1",
+            Refusal::UnknownTag => "a field's tag is none of 1, 2 and 3",
+            Refusal::WrongLength => "a field's length isn't that of its tag",
             Refusal::NoSuchSide => "the side is neither 0 nor 1",
+            Refusal::CutOff => "the tape ends within a field",
+            Refusal::ShortRoom => "an order's field is longer than the room lent for it",
             Refusal::Other(_) => "a number that the desk's rules don't have",
-        };
-        write!(f, "refused ({}): {why}", self.number())
+        }
+    }
+}
+
+/// The number and when it is given.
+impl fmt::Display for Refusal {
+    fn fmt(&self, f: &mut fmt::Formatter<'_>) -> fmt::Result {
+        write!(f, "refused ({}): {}", self.number(), self.words())
     }
 }
 

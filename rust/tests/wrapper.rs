@@ -7,7 +7,7 @@ use felavuti::{
 const SIDES: [Side; 2] = [Side::Bid, Side::Ask];
 /// Numbers at the edges.
 const EDGES: [u64; 6] = [0, 1, PLACES as u64, 1 << 63, u64::MAX - 1, u64::MAX];
-const REFUSALS: [Refusal; 8] = [
+const REFUSALS: [Refusal; 12] = [
     Refusal::NotWhole,
     Refusal::TooManyFills,
     Refusal::SumTooLarge,
@@ -15,7 +15,11 @@ const REFUSALS: [Refusal; 8] = [
     Refusal::SideFull,
     Refusal::TooManyLevels,
     Refusal::LevelTooLarge,
+    Refusal::UnknownTag,
+    Refusal::WrongLength,
     Refusal::NoSuchSide,
+    Refusal::CutOff,
+    Refusal::ShortRoom,
 ];
 
 fn limit(id: u64, side: Side, qty: u64, price: u64) -> OrderType {

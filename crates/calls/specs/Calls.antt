@@ -9,21 +9,13 @@ use Rattle.stats.specs.declared.Statistics.{Statistics}
 use Rattle.ledger.specs.declared.OrderBook.{OrderBook}
 use Rattle.ledger.specs.Stock.{Stock, stock}
 use Rattle.whole.specs.Whole.{WholeStock, Lengths}
-use Rattle.survey.specs.Taker.{takerOf}
 use Rattle.desk.specs.declared.Answer.{Answer}
 use Rattle.desk.specs.Stock.{readDesk}
 use Rattle.desk.specs.Performs.{Performs, answerOf}
-use Rattle.calls.specs.declared.Request.{Request}
-use Rattle.calls.specs.declared.Request.the-variants.{Enter, Withdraw}
 use Rattle.calls.specs.declared.Opening.{Opening}
 use Rattle.calls.specs.declared.Opening.the-variants as new
 
 -- ---- orders, cancels
-
--- the call of the rules that a request is, with the number of places lent for fills
-abbrev pub callFor : ℕ → Request → rule.Call (Unit {0})
-callFor room (Enter t) = rule.order (takerOf room t)
-callFor room (Withdraw id) = rule.cancel (id .0)
 
 -- The whole contract of a call: 1 where the stored book isn't whole, and else as the rules say, which leaves a whole book.
 pub data Executes (z : rule.Size) (c : rule.Call (Unit {0})) (k : Stock) (st : Statistics) (out : List ℕ)

@@ -1,25 +1,21 @@
 // The public calls that make or change a book, at any size. Each demands nothing of its caller: what isn't a whole book of the given size is refused
 // with 1, and a refusal changes nothing. What may be asked of a book is in crate questions.
 // Storage is lent as numbers: records, level rows of bids and asks, places of the search; the small values go in and come back.
-ghost use mathlib.Core.Path.{_≡_};
 ghost use mathlib.Core.List.{[]};
-ghost use Prim.Native.Nat.{ℕ};
 ghost use Rattle.rules.specs.Rules as rule;
 ghost use Rattle.models.specs.Readings.{callOf};
 ghost use Rattle.rows.specs.Rows.{fillRow, places};
 ghost use Rattle.whole.specs.Whole.{sizeOf};
 ghost use Rattle.ledger.specs.Stock.{stock};
-ghost use Rattle.survey.specs.Taker.{takerOf};
-ghost use Rattle.calls.specs.Calls.{Executes, callFor, Makes};
+ghost use Rattle.calls.specs.Calls.{Executes, Makes};
 use desk::Answer;
 use desk::Executed;
 use ledger::OrderBook;
 use models::Id;
 use models::OrderEvent;
 use models::OrderType;
-use models::Price;
+use perform::perform;
 use stats::Statistics;
-use survey::Taker;
 use whole::NOT_WHOLE;
 use whole::Size;
 use whole::is_sized;
@@ -48,39 +44,6 @@ pub fn fresh(
     let book = ledger::fresh(records, bids, asks, search);
     let statistics = Statistics::fresh();
     Opening::Made(book, statistics)
-}
-
-// What an order asks of the desk: to be carried out, or that another is taken back.
-enum Request {
-    Enter(Taker),
-    Withdraw(Id),
-}
-
-fn request_of(order: OrderType) -> Request
-    ensures { λ r. ⌜ ((room : ℕ) → callFor room r ≡ callOf room order) ⌝ }
-{
-    match order {
-        OrderType::Market { id, side, qty } => Request::Enter(Taker {
-            id,
-            side,
-            any: true,
-            limit: Price(0),
-            qty,
-        }),
-        OrderType::Limit {
-            id,
-            side,
-            qty,
-            price,
-        } => Request::Enter(Taker {
-            id,
-            side,
-            any: false,
-            limit: price,
-            qty,
-        }),
-        OrderType::Cancel { id } => Request::Withdraw(id),
-    }
 }
 
 // The order found under the id leaves, if there is one.
@@ -113,42 +76,6 @@ pub fn cancel(
     }
 }
 
-// An order that is to be carried out: a whole book is asked for first.
-fn enter(
-    size: Size,
-    book: OrderBook,
-    statistics: Statistics,
-    records: &mut [u64],
-    bids: &mut [u64],
-    asks: &mut [u64],
-    search: &mut [u64],
-    fills: &mut [u64],
-    t: Taker,
-) -> Executed
-    ensures { λ r. ⌜ Executes (sizeOf size) (rule.order (takerOf (places fillRow (now (fills .entry))) t))
-        (stock book (now (records .entry)) (now (bids .entry)) (now (asks .entry)) (now (search .entry))) statistics (now (fills .entry))
-        (r .answer) (stock (r .book) (now (records .exit)) (now (bids .exit)) (now (asks .exit)) (now (search .exit))) (r .statistics) (now (fills .exit)) ⌝ }
-{
-    if !is_whole(size, book, records, bids, asks, search) {
-        return Executed {
-            answer: Answer::Refused(NOT_WHOLE),
-            book,
-            statistics,
-        };
-    }
-    desk::order(
-        size,
-        book,
-        statistics,
-        records,
-        bids,
-        asks,
-        search,
-        fills,
-        t,
-    )
-}
-
 // An order or a cancel.
 pub fn execute(
     size: Size,
@@ -165,19 +92,22 @@ pub fn execute(
         (stock book (now (records .entry)) (now (bids .entry)) (now (asks .entry)) (now (search .entry))) statistics (now (fills .entry))
         (r .answer) (stock (r .book) (now (records .exit)) (now (bids .exit)) (now (asks .exit)) (now (search .exit))) (r .statistics) (now (fills .exit)) ⌝ }
 {
-    let request = request_of(order);
-    match request {
-        Request::Enter(t) => enter(
-            size,
+    if !is_whole(size, book, records, bids, asks, search) {
+        return Executed {
+            answer: Answer::Refused(NOT_WHOLE),
             book,
             statistics,
-            records,
-            bids,
-            asks,
-            search,
-            fills,
-            t,
-        ),
-        Request::Withdraw(id) => cancel(size, book, statistics, records, bids, asks, search, id),
+        };
     }
+    perform(
+        size,
+        book,
+        statistics,
+        records,
+        bids,
+        asks,
+        search,
+        fills,
+        order,
+    )
 }

@@ -1,6 +1,6 @@
-// The desk of the base for C and Rust: every public call of `orderbook` as an exported function, and the check of a whole book at any size. A slice passes as
-// a pointer and a length, the twelve numbers of a desk and the four of an answer as pointers; each returns 0, or the number of the refusal, in which case
-// nothing lent has changed. include/felavuti.h is the header.
+// The desk of the base for C and Rust: every public call of `orderbook` as an exported function, the check of a whole book at any size, and a tape's orders
+// read and written. A slice passes as a pointer and a length; the twelve numbers of a desk, the four of an answer and the six of a slip as pointers. Each
+// returns 0, or the number of the refusal, in which case nothing lent has changed. include/felavuti.h is the header.
 ghost use mathlib.Core.Path.{_≡_};
 ghost use mathlib.Core.List.{[]};
 ghost use mathlib.Core.Bool.{not};
@@ -13,6 +13,7 @@ ghost use Rattle.rows.specs.Rows.{fillRow, places};
 ghost use Rattle.questions.specs.Questions.{lowestAsk, highestBid, spreadOf};
 ghost use Rattle.numbers.specs.Numbers.{yes};
 ghost use Rattle.ffi.specs.Exports.{Carried, Ordered, Asked, Deepened, Sought, OpenedAs, Checked};
+ghost use Rattle.ffi.specs.Tapes.{FieldRead, FieldWritten};
 use models::Id;
 use models::OrderType;
 use models::Price;
@@ -21,6 +22,7 @@ use numbers::ANSWER;
 use numbers::DESK;
 use numbers::TRACKING;
 use numbers::outcome;
+use slips::SLIP;
 use whole::Size;
 
 // The larger number of a side, and the refusal of any above it.
@@ -307,4 +309,28 @@ pub extern "C" fn felavuti_track_stats(desk: &mut [u64; DESK], on: u64) -> u64
 {
     desk[TRACKING] = numbers::number_of(on != 0);
     outcome::ACCEPTED
+}
+
+// What stands at a place of a tape, as a slip.
+#[no_mangle]
+pub extern "C" fn felavuti_read_order(tape: &[u8], at: usize, order: &mut [u64; SLIP]) -> u64
+    ensures { λ r. ⌜ FieldRead (now (tape .entry)) at (now (order .entry)) r (now (order .exit)) ⌝ }
+{
+    let lent = *order;
+    let o = slips::read_slip(tape, at, lent);
+    let after = o.slip;
+    *order = after;
+    o.code
+}
+
+// The order of a slip, written at a place of a tape.
+#[no_mangle]
+pub extern "C" fn felavuti_write_order(tape: &mut [u8], at: usize, order: &mut [u64; SLIP]) -> u64
+    ensures { λ r. ⌜ FieldWritten (now (tape .entry)) at (now (order .entry)) r (now (tape .exit)) (now (order .exit)) ⌝ }
+{
+    let lent = *order;
+    let o = slips::write_slip(tape, at, lent);
+    let after = o.slip;
+    *order = after;
+    o.code
 }

@@ -18,8 +18,8 @@ use Rattle.ledger.specs.Stock.{Stock}
 use Rattle.desk.specs.Stock.{readDesk}
 use Rattle.desk.specs.Performs.{answerOf}
 use Rattle.whole.specs.Whole.{WholeStock}
+use Rattle.perform.proofs.Wholly.{whole-sound}
 use Rattle.calls.specs.Calls.{Executes}
-use Rattle.calls.proofs.Answering.{whole-sound}
 use Rattle.promises.specs.History.{callWith, Reached, begun, called, switched, fillsBy, Follows2, Follows3}
 use Rattle.promises.proofs.Performed.{leaves-desk, leaves-whole, answers}
 

@@ -8,30 +8,11 @@ use native.Mathlib.Omega.{arith}
 use native.Mathlib.Nat.{add-zero, zero-add, add-mul, one-mul, zero-mul, suc-mul, le-div-iff-mul-le}
 use lib.ListN.{length, take, drop, length-append, length-drop, take-append-drop}
 use lib.Seq.{length-take-le, take-at, drop-at, drop-drop, sets, sets-eq}
+use Rattle.overlay.specs.Over.{over}
+use Rattle.overlay.proofs.Over.{over-length, over-append}
 use Rattle.rules.specs.Rules as rule
 use Rattle.rules.specs.Whole.{one}
 use Rattle.rows.specs.Rows.{RowForm, Faithful, places, Place, rowAt, listed, laid, written, sideNumber, sideNumbered, wholeIn, fillRow, levelRow}
-
--- ---- some elements of a list replaced by others
-
-abbrev over : List ℕ → ℕ → List ℕ → List ℕ
-over l a ys = take a l ++ ys ++ drop (a + length ys) l
-
-over-front : (l : List ℕ) (a : ℕ) (ys : List ℕ) → a ≤ length l → length (take a l ++ ys) ≡ a + length ys
-over-front l a ys h = simp (length-append, length-take-le a l h)
-
-over-length : (l : List ℕ) (a : ℕ) (ys : List ℕ) → a + length ys ≤ length l → length (over l a ys) ≡ length l
-over-length l a ys h = let m : a ≤ length l = omega arith in simp (length-append, length-take-le a l m, length-drop) (omega arith)
-
-over-append : (l : List ℕ) (a : ℕ) (ys zs : List ℕ) → a ≤ length l → over l a (ys ++ zs) ≡ over (over l a ys) (a + length ys) zs
-over-append l a ys zs h =
-    let e : length (take a l ++ ys) ≡ a + length ys = over-front l a ys h in
-    let f : take (a + length ys) (over l a ys) ≡ take a l ++ ys = take-at (take a l ++ ys) (drop (a + length ys) l) (a + length ys) e in
-    let g : drop (a + length ys) (over l a ys) ≡ drop (a + length ys) l = drop-at (take a l ++ ys) (drop (a + length ys) l) (a + length ys) e in
-    let k : drop (a + length ys + length zs) (over l a ys) ≡ drop (a + length ys + length zs) l =
-    sym (drop-drop (length zs) (a + length ys) (over l a ys)) ∙ ap (drop (length zs)) g ∙ drop-drop (length zs) (a + length ys) l in
-    let n : a + length (ys ++ zs) ≡ a + length ys + length zs = omega (arith, length-append ys zs) in
-    rw (n, f, k) (ap (λ (m : List ℕ). m ++ drop (a + length ys + length zs) l) (sym (append-assoc (take a l) ys zs)))
 
 -- ---- places
 

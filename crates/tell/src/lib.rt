@@ -8,6 +8,10 @@ use models::OrderEvent;
 use models::OrderType;
 use models::Side;
 use questions::Quoted;
+use reply::count_of;
+use text::LINE;
+use text::put_event;
+use text::put_fill;
 
 pub fn put(text: &[u8]) {
     io::write_all(STDOUT_FILENO, text);
@@ -62,16 +66,11 @@ pub fn tracking(on: bool) {
     }
 }
 
-// A fill: maker, quantity, price, and whether the maker was used up.
+// A fill's line.
 fn fill(f: FillMetadata) {
-    number(b"fill ", f.order_2.0);
-    number(b" ", f.qty.0);
-    number(b" ", f.price.0);
-    if f.total_fill {
-        put(b" whole\n");
-    } else {
-        put(b" part\n");
-    }
+    let mut line = [0u8; LINE];
+    let n = put_fill(&mut line, 0, f);
+    put(&line[..n]);
 }
 
 // The first `count` fills of the rows lent, a line each; fewer where there are fewer rows.
@@ -86,53 +85,11 @@ pub fn fills(rows: &[u64], count: usize) {
     }
 }
 
-fn filled(id: u64, qty: u64, count: usize) {
-    number(b"", id);
-    number(b" ", qty);
-    line(b" ", count as u64);
-}
-
 // An event's own line, `Placed 1` or `Filled 4 8 2`: id, and where there are fills their quantity and number.
 pub fn event(e: OrderEvent) {
-    match e {
-        OrderEvent::Unfilled { id } => line(b"Unfilled ", id.0),
-        OrderEvent::Placed { id } => line(b"Placed ", id.0),
-        OrderEvent::Canceled { id } => line(b"Canceled ", id.0),
-        OrderEvent::PartiallyFilled {
-            id,
-            filled_qty,
-            fills: count,
-        } => {
-            put(b"PartiallyFilled ");
-            filled(id.0, filled_qty.0, count);
-        }
-        OrderEvent::Filled {
-            id,
-            filled_qty,
-            fills: count,
-        } => {
-            put(b"Filled ");
-            filled(id.0, filled_qty.0, count);
-        }
-    }
-}
-
-fn fill_count(e: OrderEvent) -> usize {
-    match e {
-        OrderEvent::Unfilled { id } => 0,
-        OrderEvent::Placed { id } => 0,
-        OrderEvent::Canceled { id } => 0,
-        OrderEvent::PartiallyFilled {
-            id,
-            filled_qty,
-            fills: count,
-        } => count,
-        OrderEvent::Filled {
-            id,
-            filled_qty,
-            fills: count,
-        } => count,
-    }
+    let mut line = [0u8; LINE];
+    let n = put_event(&mut line, 0, e);
+    put(&line[..n]);
 }
 
 // A refusal by its number, `Refused 4`; or the event and a line a fill.
@@ -141,7 +98,7 @@ pub fn answer(a: Answer, rows: &[u64]) {
         Answer::Refused(n) => line(b"Refused ", n),
         Answer::Done(e) => {
             event(e);
-            fills(rows, fill_count(e));
+            fills(rows, count_of(e));
         }
     }
 }

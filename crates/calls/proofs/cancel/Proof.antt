@@ -3,8 +3,8 @@ use mathlib.Core.Path.{refl}
 use mathlib.Core.List.{[]}
 use borrow.Author.Tests.{not-true, not-false}
 use Rattle.whole.specs.Whole.{sizeOf}
+use Rattle.perform.proofs.Wholly.{whole-sound, performs-whole}
 use Rattle.calls.specs.Calls.{broken, performed}
-use Rattle.calls.proofs.Answering.{whole-sound, performs-whole}
 use borrow.Author.Needs.{needs}
 use Rattle.calls.proofs.cancel.Statement.{statement}
 use Rattle.calls.proofs.cancel.Tie as tie

@@ -1,26 +1,13 @@
--- `calls::execute` is `enter` or `cancel`, by what the order asks. Assumes nothing.
-use mathlib.Core.Path.{_∙_, ap, sym}
-use Rattle.rows.specs.Rows.{fillRow, places}
-use Rattle.calls.specs.Calls.{callFor}
-use Rattle.calls.proofs.Answering.{executes-as, cancels-beside}
+-- `calls::execute` meets its contract: on a whole book it is `perform`. Assumes nothing.
+use mathlib.Core.Path.{refl}
+use borrow.Author.Tests.{not-true, not-false}
+use Rattle.calls.specs.Calls.{broken, performed}
 use borrow.Author.Needs.{needs}
 use Rattle.calls.proofs.execute.Statement.{statement}
 use Rattle.calls.proofs.execute.Tie as tie
 
-request-of-requires : tie.Need-request-of-requires
-request-of-requires c κs = search needs
-
-enum-known-request : tie.Need-enum-known-request
-enum-known-request c = search needs
-
-enter-requires : tie.Need-enter-requires
-enter-requires c κs = search needs
-
-enum-known-request-2 : tie.Need-enum-known-request-2
-enum-known-request-2 c = search needs
-
-cancel-requires : tie.Need-cancel-requires
-cancel-requires c κs = search needs
+is-whole-requires : tie.Need-is-whole-requires
+is-whole-requires c κs = search needs
 
 same-length : tie.Need-same-length
 same-length c = search needs
@@ -34,11 +21,14 @@ same-length-3 c = search needs
 same-length-4 : tie.Need-same-length-4
 same-length-4 c = search needs
 
+returns : tie.Need-returns
+returns c = broken (λ w. c .before .is-whole .ensures .nay (not-true _ (c .if1 .taken)) w) refl refl refl refl
+
+perform-requires : tie.Need-perform-requires
+perform-requires c κs = c .before .before .before .before .before .before .is-whole .ensures .yea (not-false _ (c .before .before .before .before .before .if1 .left))
+
 same-length-5 : tie.Need-same-length-5
 same-length-5 c = search needs
-
-returns : tie.Need-returns
-returns c = let room = places fillRow (c .before .before .before .before .before .before .before .before .before .before .before .before .before .before .before .before .before .before .before .before .before .before .before .before .before .args .fills .now) in executes-as (ap (callFor room) (sym (c .before .before .before .before .before .before .before .before .before .before .before .before .before .before .before .before .before .request .given .1)) ∙ c .before .before .before .before .before .before .before .before .before .before .before .before .before .before .before .before .before .before .before .request-of .ensures room) (c .before .before .before .before .before .before .before .before .before .before .enter .ensures)
 
 same-length-6 : tie.Need-same-length-6
 same-length-6 c = search needs
@@ -53,23 +43,20 @@ same-length-9 : tie.Need-same-length-9
 same-length-9 c = search needs
 
 returns-2 : tie.Need-returns-2
-returns-2 c = let room = places fillRow (c .before .before .before .before .before .before .before .before .before .before .before .before .before .before .before .before .before .before .before .before .before .before .args .fills .now) in executes-as (ap (callFor room) (sym (c .before .before .before .before .before .before .before .before .before .before .before .before .before .before .request2 .given .1)) ∙ c .before .before .before .before .before .before .before .before .before .before .before .before .before .before .before .before .request-of .ensures room) (cancels-beside (c .before .before .before .before .before .before .before .before .before .before .before .before .before .before .before .before .before .before .before .before .before .before .args .fills .now) (c .before .before .before .before .before .before .before .before .cancel .ensures))
+returns-2 c = performed (c .before .before .before .before .before .before .before .before .before .before .before .before .before .before .before .before .before .is-whole .ensures .yea (not-false _ (c .before .before .before .before .before .before .before .before .before .before .before .before .before .before .before .before .if1 .left))) (c .before .before .before .before .before .before .before .before .before .before .perform .ensures)
 
 pub execute-spec : {M : Type 1} → statement M
 execute-spec =
     tie.close
     (tie.spec
-    request-of-requires
-    enum-known-request
-    enter-requires
-    enum-known-request-2
-    cancel-requires
+    is-whole-requires
     same-length
     same-length-2
     same-length-3
     same-length-4
-    same-length-5
     returns
+    perform-requires
+    same-length-5
     same-length-6
     same-length-7
     same-length-8

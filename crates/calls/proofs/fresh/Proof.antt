@@ -2,7 +2,7 @@
 use mathlib.Core.Path.{refl}
 use borrow.Author.Tests.{not-true, not-false}
 use Rattle.calls.specs.Calls.{short, made}
-use Rattle.calls.proofs.Answering.{fresh-asks, begins}
+use Rattle.calls.proofs.Beginning.{fresh-asks, begins}
 use borrow.Author.Needs.{needs}
 use Rattle.calls.proofs.fresh.Statement.{statement}
 use Rattle.calls.proofs.fresh.Tie as tie

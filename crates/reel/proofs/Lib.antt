@@ -1,0 +1,3 @@
+pub mod Testing
+pub mod Along
+pub mod Refills
