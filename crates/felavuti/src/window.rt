@@ -1,6 +1,7 @@
 // What is at hand of the tape, in a lent buffer.
 ghost use Prim.Native.Nat.{_+_, _≤_, _<_};
 ghost use lib.ListN.{length};
+ghost use Rattle.felavuti.specs.Windows.{Refilled};
 use stream::move_down;
 use stream::read_behind;
 use tape::LONGEST;
@@ -32,7 +33,8 @@ pub fn begun() -> Window
 // More of the tape, where too little is at hand for a field.
 pub fn refill(fd: i32, name: &[u8], tape: &mut [u8], w: Window) -> Window
     requires { ⌜ (w .start ≤ w .end) × (w .end ≤ length (now tape)) × (w .base + w .start < 18446744073709551616) ⌝ }
-    ensures { λ r. ⌜ (r .start ≤ r .end) × (r .end ≤ length (now (tape .entry))) × (r .base ≤ w .base + w .start) ⌝ }
+    ensures { λ r. ⌜ (r .start ≤ r .end) × (r .end ≤ length (now (tape .entry))) × (r .base ≤ w .base + w .start)
+        × Refilled (now (tape .entry)) (w .start) (w .end) (w .base) (w .last) (now (tape .exit)) (r .start) (r .end) (r .base) (r .last) ⌝ }
 {
     let start = w.start;
     let end = w.end;

@@ -1,8 +1,9 @@
 // What the programs that read a stream have in common: its source, named by the first argument, what is at hand of it in a lent buffer, and what goes out.
 // Whatever fails is said on standard error, with its name.
 ghost use mathlib.Core.Path.{_≡_};
+ghost use mathlib.Core.Bool.{true};
 ghost use Prim.Native.Nat.{_+_, _-_, _≤_};
-ghost use lib.ListN.{length, drop};
+ghost use lib.ListN.{length, take, drop};
 ghost use lib.Seq.{paste};
 ghost use Rattle.io.specs.Counts.{Counts};
 use libc::STDIN_FILENO;
@@ -77,10 +78,11 @@ fn least(a: usize, b: usize) -> usize
     if a < b { a } else { b }
 }
 
-// One read, behind the bytes that are kept. A failure is said, with the name of what is read.
+// One read, behind the bytes that are kept, which stay as they are. A failure is said, with the name of what is read.
 pub fn read_behind(fd: i32, name: &[u8], buffer: &mut [u8], kept: usize) -> Came
     requires { ⌜ kept ≤ length (now buffer) ⌝ }
-    ensures { λ r. ⌜ kept + r .bytes ≤ length (now (buffer .entry)) ⌝ }
+    ensures { λ r. ⌜ (kept + r .bytes ≤ length (now (buffer .entry))) × (take kept (now (buffer .exit)) ≡ take kept (now (buffer .entry)))
+        × (r .ended ≡ true → r .bytes ≡ 0) ⌝ }
 {
     let room = buffer.len() - kept;
     let got = libc::read(fd, &mut buffer[kept..]);

@@ -72,8 +72,8 @@ pub data AllFit : List OrderType → Type 0 where
 -- Orders written one after another into the list l from the place `at` on, none of them refused: what stands afterwards, and the place behind the last.
 pub data Wrote : List ℕ → ℕ → List OrderType → List ℕ → ℕ → Type 0 where
   begun : {l : List ℕ} {at : ℕ} → Wrote l at [] l at
-  further : {l l′ : List ℕ} {at next behind : ℕ} {o : OrderType} {os : List OrderType} → writtenAt l at o ≡ Next next → Wrote (writtenTo l at o) next os l′ behind
-      → Wrote l at (o ∷ os) l′ behind
+  further : {l l′ : List ℕ} {at next behind : ℕ} {o : OrderType} {os : List OrderType} → writtenAt l at o ≡ Next next
+      → Wrote (writtenTo l at o) next os l′ behind → Wrote l at (o ∷ os) l′ behind
 
 -- the bytes between two places
 abbrev pub between : List ℕ → ℕ → ℕ → List ℕ

@@ -1,4 +1,5 @@
-// Lines of text into a lent buffer, exactly: each function puts its bytes at a place and answers the place behind them. Room is the caller's matter: LINE bytes are enough for any line.
+// Lines of text into a lent buffer, exactly: each function puts its bytes at a place and answers the place behind them. Room is the caller's matter: LINE
+// bytes are enough for any line.
 ghost use mathlib.Core.Path.{_≡_};
 ghost use mathlib.Core.List.{_++_};
 ghost use Prim.Native.Nat.{_+_, _≤_, _<_};
