@@ -5,7 +5,7 @@ use mathlib.Core.Bool.{true}
 use mathlib.Core.List.{List, [], _∷_, _++_}
 use lib.Ieee.{round, units, size, odd, span, climb}
 use Rattle.rules.specs.Rules as rule
-use Rattle.rules.specs.Rules.{keep, matching, place, only, levels, occupied, lookup, total, worth, lastPrice, lastQuantity, average, statsAfter, tooLarge, outcome, checks, refusal, carried, firstOf, perform, anyAbove, reply}
+use Rattle.rules.specs.Rules.{keep, matching, place, only, levels, occupied, lookup, total, worth, lastPrice, lastQuantity, average, statsAfter, tooLarge, outcome, checks, refusal, carried, firstOf, perform}
 use Rattle.models.specs.declared.Side.{Side}
 use Rattle.models.specs.declared.Side.the-variants.{Bid, Ask}
 use Rattle.models.specs.declared.OrderType.{OrderType}

@@ -1,7 +1,7 @@
 -- Which refusals an order of a tape can get: 4 and 5 alone. 1 is no refusal of the rules; 2 can't come, since there is a place for a fill of every order
 -- that can rest; and 3 can't, since tracking is off. Assumes nothing.
 use Prim.Native.Nat.{ℕ, zero, suc, _+_, _-_, _≤_}
-use mathlib.Core.Path.{_≡_, refl, sym, ap, subst, _∙_}
+use mathlib.Core.Path.{_≡_, refl}
 use mathlib.Core.Bool.{Bool, true, false}
 use mathlib.Core.List.{List, [], _∷_}
 use mathlib.Core.Logic.{_⊎_, inl, inr}
@@ -11,7 +11,7 @@ use lib.ListN.{length}
 use borrow.Author.Tests.{le-ltb}
 use Rattle.rules.specs.Rules as rule
 use Rattle.rules.specs.Rules.{Size, Side, Order, Taker, Fill, Book, Desk, Stats, opposite, own, given, filling, matching, outcome, makers}
-use Rattle.rules.specs.Rules.{unless, firstOf, tooLarge, statsAfter, checks, refusal, carried, verdict, perform, full, crowded, standing}
+use Rattle.rules.specs.Rules.{firstOf, tooLarge, statsAfter, checks, refusal, carried, verdict, perform}
 use Rattle.rules.specs.Whole.{All, empty, _&_, WholeBook}
 use Rattle.rules.proofs.Bounds.{whole-book-after, whole-book-end}
 use Rattle.models.specs.declared.OrderType.{OrderType}

@@ -1,11 +1,10 @@
 -- A refill shows what the tape has: it keeps the bytes at hand in their order, behind them stand those that came, and so a window of the tape is one again.
 -- Assumes nothing.
 use Prim.Native.Nat.{ℕ, _+_, _-_, _≤_}
-use mathlib.Core.Path.{_≡_, refl, sym, ap, subst, _∙_}
+use mathlib.Core.Path.{_≡_, sym, ap, _∙_}
 use mathlib.Core.Bool.{Bool, true, false}
 use mathlib.Core.List.{List, [], _++_, append-assoc}
 use native.Mathlib.Omega.{arith}
-use native.Mathlib.Nat.{zero-add}
 use lib.ListN.{length, take, drop, length-drop}
 use lib.Seq.{paste, take-add, take-at, drop-at, drop-drop, drop-append-le, length-take-le}
 use Rattle.reel.specs.Reel.{Window}

@@ -1,6 +1,6 @@
 -- Where there is room for any order, the writer puts the order there. Assumes nothing.
 use Prim.Native.Nat.{ℕ, _+_, _≤_}
-use mathlib.Core.Path.{_≡_, sym, ap, _∙_}
+use mathlib.Core.Path.{_≡_, ap, _∙_}
 use mathlib.Core.Bool.{Bool, true, cond}
 use mathlib.Core.List.{List}
 use native.Mathlib.Omega.{arith}
@@ -10,7 +10,6 @@ use borrow.Author.Tests.{le-leb}
 use Rattle.models.specs.declared.OrderType.{OrderType}
 use Rattle.overlay.specs.Over.{Put, over}
 use Rattle.overlay.proofs.Over.{over-length}
-use Rattle.tape.specs.declared.Written.{Written}
 use Rattle.tape.specs.declared.Written.the-variants.{Next, Refused}
 use Rattle.tape.specs.Orders.{tagOf, fieldOf, writtenAt, writtenTo}
 use Rattle.tape.proofs.Tags.{field-length, value-most}

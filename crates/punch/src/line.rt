@@ -1,5 +1,4 @@
 // A line's order: `limit ask 1 10 105`, `market bid 6 12`, `cancel 5`. The words are read along the line, and the first that is wrong ends the reading.
-ghost use Prim.Native.Nat.{_≤_};
 ghost use Rattle.punch.specs.Places.{Within};
 use crate::words::State;
 use crate::words::What;

@@ -1,18 +1,16 @@
 -- What stands at a place of a tape whose field has its tag and length, by the tests that the reader makes. Assumes nothing.
-use Prim.Native.Nat.{ℕ, suc, _+_, _-_, _≤_, _<_}
-use mathlib.Core.Path.{_≡_, refl, sym, ap, _∙_}
-use mathlib.Core.Bool.{Bool, true, false, not, _&&_}
+use Prim.Native.Nat.{ℕ, _+_, _-_, _≤_, _<_}
+use mathlib.Core.Path.{_≡_, sym, ap, _∙_}
+use mathlib.Core.Bool.{true, false}
 use mathlib.Core.List.{List}
 use native.Mathlib.Omega.{arith}
-use lib.Dec.{eqb, ltb}
 use lib.ListN.{length, drop, length-drop}
 use lib.Seq.{drop-drop}
 use borrow.Author.Tests.{lt-ltb, le-ltb, ltb-false}
 use Rattle.fields.specs.declared.Front.the-variants.{Header}
-use Rattle.fields.specs.Fields.{header, tagIn, lengthIn, valueIn, stump, cutOff, frontOf}
-use Rattle.tape.specs.declared.Read.{Read}
+use Rattle.fields.specs.Fields.{header, tagIn, lengthIn, valueIn, cutOff, frontOf}
 use Rattle.tape.specs.declared.Read.the-variants.{Order, Refused}
-use Rattle.tape.specs.Orders.{lengthOf, orderIn, oddSide, item, found, readAt}
+use Rattle.tape.specs.Orders.{lengthOf, orderIn, oddSide, found, readAt}
 use Rattle.tape.proofs.Items.{Headed, headed, oddIn, item-unknown, item-length, item-cut, item-side, item-order}
 
 module _ (l : List ℕ) (at t n : ℕ) (front : Header t n ≡ frontOf (drop at l)) where

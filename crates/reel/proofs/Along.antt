@@ -1,6 +1,6 @@
 -- The loop of a part: what holds before each field, and that a field keeps it. Assumes nothing.
-use Prim.Native.Nat.{ℕ, suc, _+_, _-_, _*_, _<_, _≤_}
-use mathlib.Core.Path.{_≡_, refl, sym, ap, subst, _∙_}
+use Prim.Native.Nat.{ℕ, _+_, _-_, _*_, _<_, _≤_}
+use mathlib.Core.Path.{_≡_, subst}
 use mathlib.Core.Bool.{Bool, true, false}
 use mathlib.Core.Logic.{_⊎_, inl, inr}
 use mathlib.Core.List.{List, []}
@@ -14,7 +14,7 @@ use Rattle.tape.specs.Orders.{longestField}
 use Rattle.tape.proofs.Forms.{ordered}
 use Rattle.text.specs.Text.{longest}
 use Rattle.serve.specs.declared.State.{State}
-use Rattle.serve.specs.declared.State.the-variants.{Going, Stopped, Ended}
+use Rattle.serve.specs.declared.State.the-variants.{Going}
 use Rattle.serve.specs.Serve.{Keeping, Ready, Stepped, ended, stopped, went, Step}
 use Rattle.reel.specs.Reel.{AtHand, Served, none, more, GoesOn, on, off, Part}
 

@@ -1,12 +1,12 @@
 -- Whatever the refills are: parts of a tape served one after another say the text of the whole tape, and leave its desk. Assumes nothing.
-use Prim.Native.Nat.{ℕ, _+_, _≤_}
+use Prim.Native.Nat.{ℕ, _+_}
 use mathlib.Core.Path.{_≡_, refl, sym, ap, subst, _∙_}
-use mathlib.Core.Bool.{Bool, true, false}
-use mathlib.Core.Logic.{_⊎_, inl, inr}
-use mathlib.Core.List.{List, [], _∷_, _++_, append-assoc, append-nil}
+use mathlib.Core.Bool.{Bool, true}
+use mathlib.Core.Logic.{inl, inr}
+use mathlib.Core.List.{List, [], _++_, append-assoc, append-nil}
 use native.Mathlib.Omega.{arith}
 use native.Mathlib.Nat.{zero-add, add-assoc}
-use lib.ListN.{length, drop, length-drop}
+use lib.ListN.{drop, length-drop}
 use lib.Seq.{drop-drop, drop-append-le}
 use Rattle.rules.specs.Rules as rule
 use Rattle.models.specs.declared.OrderType.{OrderType}
@@ -18,7 +18,7 @@ use Rattle.text.specs.Text.{stoppedLine}
 use Rattle.feed.specs.Feed.{result, after, answers, answersText, answerText, endingText, textOf, tapeText, tapeDesk}
 use Rattle.serve.specs.declared.State.{State}
 use Rattle.serve.specs.declared.State.the-variants.{Going, Stopped, Ended}
-use Rattle.serve.specs.Serve.{Keeping, deskOf, Follows, Stepped, ended, stopped, went}
+use Rattle.serve.specs.Serve.{Keeping, deskOf, Stepped, ended, stopped, went}
 use Rattle.reel.specs.Reel.{AtHand, Served, none, more, Window, Reeled, start, refill, Tells}
 
 -- ---- a part is a run along the whole tape

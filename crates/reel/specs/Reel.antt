@@ -55,7 +55,7 @@ pub record Window (t : List ℕ) (base : ℕ) (w : List ℕ) (last : Bool) : Typ
   pub bytes : drop base t ≡ w ++ rest
   pub ends : last ≡ true → rest ≡ []
 
--- Parts of the tape t served one after another, from the offset `at` on: each window begins anywhere at or before the field where the one before it paused.
+-- Parts of the tape t served one after another, from its beginning on: each window begins anywhere at or before the field where the one before it paused.
 pub data Reeled (z : rule.Size) (t : List ℕ) (x : Keeping) : List ℕ → State → ℕ → Keeping → Type 0 where
   start : Reeled z t x [] Going 0 x
   refill : {text said : List ℕ} {base at next : ℕ} {w : List ℕ} {last : Bool} {s : State} {y x′ : Keeping} → Reeled z t x text Going (base + at) y

@@ -6,8 +6,8 @@ use mathlib.Core.Bool.{Bool, true, false}
 use mathlib.Core.List.{List, [], _∷_, _++_, append-nil, append-assoc}
 use native.Mathlib.Omega.{arith}
 use native.Mathlib.Nat.{add-zero, zero-add, add-mul, one-mul, zero-mul, suc-mul, le-div-iff-mul-le}
-use lib.ListN.{length, take, drop, length-append, length-drop, take-append-drop}
-use lib.Seq.{length-take-le, take-at, drop-at, drop-drop, sets, sets-eq}
+use lib.ListN.{length, take, drop, length-append, take-append-drop}
+use lib.Seq.{length-take-le, drop-at, drop-drop, sets, sets-eq}
 use Rattle.overlay.specs.Over.{over}
 use Rattle.overlay.proofs.Over.{over-length, over-append}
 use Rattle.rules.specs.Rules as rule

@@ -1,16 +1,15 @@
 -- A step follows the definition of a tape: what was carried out is what the rules say, and the fills told are those that were made. Assumes nothing.
-use Prim.Native.Nat.{ℕ, zero, suc, _+_, _*_, _/_, _≤_, _<_, min}
+use Prim.Native.Nat.{ℕ, zero, suc, _+_, _*_, _/_, _≤_, min}
 use mathlib.Core.Path.{_≡_, refl, sym, ap, subst, _∙_}
 use mathlib.Core.Bool.{Bool, true, false}
-use mathlib.Core.List.{List, [], _∷_, _++_}
+use mathlib.Core.List.{List, [], _∷_}
 use mathlib.Core.Option.{Option, none, some}
 use native.Mathlib.Omega.{arith}
 use native.Mathlib.Nat.{le-div-iff-mul-le}
-use lib.Dec.{ltb}
 use lib.ListN.{length}
 use borrow.Author.Tests.{ltb-false}
 use Rattle.rules.specs.Rules as rule
-use Rattle.rules.specs.Rules.{perform, verdict, refusal, carried, checks, firstOf, unless, outcome, makers}
+use Rattle.rules.specs.Rules.{perform, verdict, refusal, carried, checks, firstOf, outcome, makers}
 use Rattle.models.specs.declared.OrderType.{OrderType}
 use Rattle.models.specs.declared.OrderType.the-variants.{Market, Limit, Cancel}
 use Rattle.models.specs.declared.OrderEvent.{OrderEvent}

@@ -1,6 +1,5 @@
 // The desk at one field of a tape: it is read, its order carried out, and what the desk says of it put into a lent buffer as text.
 // The book must be whole: whoever alone holds the storage has it so from the start, and every step keeps it.
-ghost use mathlib.Core.Path.{_≡_};
 ghost use Prim.Native.Nat.{_+_, _*_, _≤_, _<_};
 ghost use lib.ListN.{length};
 ghost use Rattle.ledger.specs.Stock.{stock};

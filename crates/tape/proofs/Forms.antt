@@ -1,14 +1,14 @@
 -- One field: what is written for an order reads as it, and bytes that read as an order are what is written for it. Assumes nothing.
-use Prim.Native.Nat.{ℕ, zero, suc, _+_, _*_, _^_, _≤_, _<_}
+use Prim.Native.Nat.{ℕ, suc, _+_, _^_, _≤_, _<_}
 use mathlib.Core.Path.{_≡_, refl, sym, ap, subst, _∙_}
 use mathlib.Core.Bool.{Bool, true, false, not, _&&_, cond}
 use mathlib.Core.List.{List, [], _∷_, _++_, append-assoc}
 use native.Mathlib.Omega.{arith}
 use lib.Dec.{eqb, ltb}
 use lib.ListN.{length, getD, take, drop, length-append, length-drop, take-append-drop}
-use lib.Seq.{drop-at, getD-at, drop-drop, drop-cons, take-add, getD-drop}
-use borrow.Author.Tests.{le-ltb, ltb-false, eqb-true, eqb-false, eq-eqb, ne-eqb, not-false}
-use Rattle.rules.specs.Rules.{firstOf, unless}
+use lib.Seq.{drop-at, getD-at, drop-cons, take-add}
+use borrow.Author.Tests.{le-ltb, ltb-false, eqb-true, eqb-false, ne-eqb}
+use Rattle.rules.specs.Rules.{firstOf}
 use Rattle.models.specs.declared.Side.{Side}
 use Rattle.models.specs.declared.Side.the-variants.{Bid, Ask}
 use Rattle.models.specs.declared.OrderType.{OrderType}
@@ -16,7 +16,7 @@ use Rattle.models.specs.declared.OrderType.the-variants.{Market, Limit, Cancel}
 use Rattle.fields.specs.Bytes.{Bytes, number, bytes}
 use Rattle.fields.specs.Fields.{header, field, tagIn, lengthIn, valueIn, stump, cutOff}
 use Rattle.fields.proofs.Numbers.{bytes-length, number-bytes, bytes-number, number-below, bytes-drop}
-use Rattle.tape.specs.Orders.{lengthOf, idIn, sideByte, sideIn, quantityIn, priceIn, orderIn, Item, order, refused, nothing, unlessRefused, item, sideNumber, tagOf, wishOf, valueOf, fieldOf}
+use Rattle.tape.specs.Orders.{lengthOf, sideByte, sideIn, orderIn, Item, order, unlessRefused, item, sideNumber, tagOf, wishOf, valueOf, fieldOf}
 use Rattle.tape.specs.Tape.{Fits}
 use Rattle.tape.proofs.Tags.{Tagged, market, limit, cancel, unknown, tagged, length-market, length-limit, length-cancel, wish-length, value-length, value-most, field-length, order-market, order-limit, order-cancel}
 use Rattle.tape.proofs.Items.{oddIn, results, meant, judged, item-order}

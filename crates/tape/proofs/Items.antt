@@ -1,15 +1,14 @@
 -- What begins some bytes, by the tests in their order. Assumes nothing.
-use Prim.Native.Nat.{ℕ, suc, _+_, _-_, _≤_, _<_}
-use mathlib.Core.Path.{_≡_, refl, sym, ap, _∙_}
-use mathlib.Core.Bool.{Bool, true, false, not, _&&_, cond}
+use Prim.Native.Nat.{ℕ, _+_, _<_}
+use mathlib.Core.Path.{_≡_, refl, _∙_}
+use mathlib.Core.Bool.{Bool, true, false, not, cond}
 use mathlib.Core.List.{List, [], _∷_}
-use mathlib.Core.Option.{Option, none, some}
+use mathlib.Core.Option.{some}
 use native.Mathlib.Omega.{arith}
-use lib.Dec.{eqb, ltb}
-use lib.ListN.{length, getD, drop, length-drop}
-use borrow.Author.Tests.{lt-ltb, le-ltb, eq-eqb, ne-eqb}
-use Rattle.rules.specs.Rules.{firstOf, unless}
-use Rattle.fields.specs.declared.Front.{Front}
+use lib.Dec.{eqb}
+use lib.ListN.{length}
+use borrow.Author.Tests.{eq-eqb, ne-eqb}
+use Rattle.rules.specs.Rules.{firstOf}
 use Rattle.fields.specs.declared.Front.the-variants.{End, Stump, Header}
 use Rattle.fields.specs.Fields.{header, tagIn, lengthIn, valueIn, stump, cutOff, frontOf}
 use Rattle.tape.specs.Orders.{lengthOf, orderIn, oddSide, checks, Item, order, refused, nothing, unlessRefused, item}

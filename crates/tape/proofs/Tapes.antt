@@ -1,7 +1,7 @@
 -- Whole tapes: reading goes on behind an order; what is written for some orders reads back as them; bytes that read as orders to the end are what is written for them.
 -- Assumes nothing.
-use Prim.Native.Nat.{ℕ, zero, suc, _+_, _≤_, _<_}
-use mathlib.Core.Path.{_≡_, refl, sym, ap, subst, _∙_}
+use Prim.Native.Nat.{ℕ, zero, suc, _+_, _<_}
+use mathlib.Core.Path.{_≡_, refl, sym, ap, _∙_}
 use mathlib.Core.List.{List, [], _∷_, _++_, append-assoc, append-nil}
 use mathlib.Core.Option.{Option}
 use native.Mathlib.Omega.{arith}
@@ -15,8 +15,8 @@ use Rattle.rules.specs.Rules.{firstOf}
 use Rattle.fields.specs.Fields.{header, field, tagIn, lengthIn, valueIn}
 use Rattle.fields.proofs.Numbers.{bytes-drop}
 use Rattle.tape.specs.Orders.{orderIn, checks, Item, order, refused, nothing, unlessRefused, item, fieldOf}
-use Rattle.tape.specs.Tape.{Ending, ended, stopped, Reading, ahead, aheadAll, taken, reads, readUpTo, readFrom, readTape, tapeOf, AllFit, none, one, Fits}
-use Rattle.tape.proofs.Forms.{Ordered, ordered, Only, field-only, field-back}
+use Rattle.tape.specs.Tape.{Ending, ended, stopped, Reading, ahead, aheadAll, taken, reads, readUpTo, readFrom, readTape, tapeOf, AllFit, none, one}
+use Rattle.tape.proofs.Forms.{ordered, Only, field-only, field-back}
 
 -- an order takes up bytes that are there
 order-taken : (l : List ℕ) (o : OrderType) (k : ℕ) → item l ≡ order o k → length (drop k l) < length l

@@ -1,18 +1,18 @@
 -- A part of a tape is enough: where 28 bytes or more are at hand, what begins them doesn't depend on what follows. So a tape of any length goes through a buffer. Assumes nothing.
-use Prim.Native.Nat.{ℕ, _+_, _≤_, _<_}
+use Prim.Native.Nat.{ℕ, _+_, _≤_}
 use mathlib.Core.Path.{_≡_, refl, sym, ap, _∙_}
-use mathlib.Core.Bool.{Bool, true, false, not, _&&_, cond}
-use mathlib.Core.List.{List, [], _∷_, _++_}
+use mathlib.Core.Bool.{Bool, true, false, not}
+use mathlib.Core.List.{List, _++_}
 use native.Mathlib.Omega.{arith}
-use lib.Dec.{eqb, ltb}
-use lib.ListN.{length, getD, drop, length-append, length-drop, List·getD-append}
+use lib.Dec.{eqb}
+use lib.ListN.{length, drop, length-append, length-drop, List·getD-append}
 use lib.Seq.{drop-append-le}
 use borrow.Author.Tests.{le-ltb, eqb-true}
 use Rattle.rules.specs.Rules.{firstOf}
 use Rattle.fields.specs.Bytes.{number}
-use Rattle.fields.specs.Fields.{header, tagIn, lengthIn, valueIn, stump, cutOff}
+use Rattle.fields.specs.Fields.{tagIn, lengthIn, valueIn, stump, cutOff}
 use Rattle.fields.proofs.Numbers.{number-front}
-use Rattle.tape.specs.Orders.{lengthOf, sideByte, orderIn, Item, order, unlessRefused, item, found, readAt}
+use Rattle.tape.specs.Orders.{lengthOf, orderIn, Item, unlessRefused, item, found, readAt}
 use Rattle.tape.proofs.Tags.{value-most}
 use Rattle.tape.proofs.Items.{oddIn, results, meant, judged}
 

@@ -1,5 +1,5 @@
 -- An order as a field, and what stands at a place of a tape: an order, a refusal by its number, or nothing. Assumes nothing.
-use Prim.Native.Nat.{ℕ, _+_, _<_, _^_}
+use Prim.Native.Nat.{ℕ, _+_}
 use mathlib.Core.Bool.{Bool, not, _&&_, cond}
 use mathlib.Core.List.{List, [], _∷_, _++_}
 use mathlib.Core.Option.{Option, none, some}
@@ -23,6 +23,7 @@ use Rattle.tape.specs.declared.Written.the-variants as wrote
 
 -- ---- tags and values
 
+-- the kinds of order
 abbrev pub marketTag : ℕ
 marketTag = 1
 
@@ -68,7 +69,7 @@ orderIn t v =
 
 -- ---- reading
 
--- a kind that has a side says one: the byte of its side is at most 1 (a cancel has none: what stands there belongs to the next field)
+-- the kind has a side, and its byte is above 1 (a cancel has none: what stands there belongs to the next field)
 abbrev pub oddSide : ℕ → List ℕ → Bool
 oddSide t v = not (eqb t cancelTag) && ltb 1 (sideByte v)
 

@@ -1,6 +1,6 @@
 -- An order that is written, and one for which room is short. Assumes nothing.
-use Prim.Native.Nat.{ℕ, _+_, _<_, _≤_}
-use mathlib.Core.Path.{_≡_, refl, sym, ap, _∙_}
+use Prim.Native.Nat.{ℕ, _+_, _<_}
+use mathlib.Core.Path.{_≡_, sym, ap, _∙_}
 use mathlib.Core.Bool.{Bool, true, false, cond}
 use mathlib.Core.List.{List, _∷_, _++_}
 use lib.Dec.{leb}
@@ -10,7 +10,6 @@ use Rattle.models.specs.declared.OrderType.{OrderType}
 use Rattle.fields.specs.Bytes.{bytes}
 use Rattle.overlay.specs.Over.{Put}
 use Rattle.fields.specs.Fields.{field}
-use Rattle.tape.specs.declared.Written.{Written}
 use Rattle.tape.specs.declared.Written.the-variants.{Next, Refused}
 use Rattle.tape.specs.Orders.{lengthOf, tagOf, valueOf, fieldOf, writtenAt, writtenTo}
 use Rattle.tape.proofs.Tags.{value-length}

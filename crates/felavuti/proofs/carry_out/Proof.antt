@@ -1,6 +1,6 @@
 -- `felavuti::carry_out` meets its contract. Assumes nothing.
 use native.Mathlib.Omega.{arith}
-use mathlib.Core.Path.{_≡_, refl, sym}
+use mathlib.Core.Path.{refl, sym}
 use Rattle.felavuti.proofs.Beginning.{made-ready}
 use borrow.Author.Needs.{needs}
 use Rattle.felavuti.proofs.carry_out.Statement.{statement}

@@ -1,11 +1,7 @@
 -- `reader::field_at` meets its contract. Assumes nothing.
-use mathlib.Core.Path.{_≡_, sym, ap, _∙_}
-use mathlib.Core.List.{List}
+use mathlib.Core.Path.{_≡_, sym, _∙_}
 use native.Mathlib.Omega.{arith}
-use Prim.Native.Nat.{ℕ, _+_, _≤_}
-use lib.ListN.{length, drop}
-use Rattle.tape.specs.declared.Read.the-variants.{Order}
-use Rattle.tape.specs.Orders.{lengthOf, orderIn}
+use Rattle.tape.specs.Orders.{lengthOf}
 use Rattle.reader.proofs.Places.{header-fits, read-unknown, read-length, read-cut, read-side, read-order}
 use borrow.Author.Needs.{needs}
 use Rattle.reader.proofs.field_at.Statement.{statement}

@@ -3,8 +3,7 @@ use Rattle.tape.specs.Orders.{sideBy}
 use Rattle.tape.proofs.Forms.{same-market, same-limit, same-cancel}
 use mathlib.Core.Path.{_≡_, sym, ap, _∙_}
 use native.Mathlib.Omega.{arith}
-use Prim.Native.Nat.{ℕ, _+_}
-use lib.ListN.{drop, getD}
+use lib.ListN.{drop}
 use lib.Seq.{drop-drop, getD-drop}
 use Rattle.fields.specs.Bytes.{number}
 use Rattle.tape.proofs.Tags.{value-least, value-wide, the-limit, length-limit, order-market, order-limit, order-cancel}

@@ -1,5 +1,5 @@
 -- `reader::read_order` meets its contract. Assumes nothing.
-use mathlib.Core.Path.{_≡_, sym, ap, _∙_}
+use mathlib.Core.Path.{sym, ap, _∙_}
 use Rattle.tape.specs.Orders.{found}
 use Rattle.tape.proofs.Items.{item-end, item-stump}
 use borrow.Author.Needs.{needs}

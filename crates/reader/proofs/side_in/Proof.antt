@@ -1,6 +1,5 @@
 -- `reader::side_in` meets its contract. Assumes nothing.
 use borrow.Author.Tests.{eq-eqb, ne-eqb}
-use borrow.Author.Needs.{needs}
 use Rattle.reader.proofs.side_in.Statement.{statement}
 use Rattle.reader.proofs.side_in.Tie as tie
 

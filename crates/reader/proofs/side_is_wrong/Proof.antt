@@ -1,10 +1,8 @@
 -- `reader::side_is_wrong` meets its contract. Assumes nothing.
-use mathlib.Core.Path.{_≡_, sym, ap, _∙_}
 use native.Mathlib.Omega.{arith}
 use borrow.Author.Tests.{eq-eqb, ne-eqb}
 use lib.Seq.{getD-drop}
 use Rattle.tape.proofs.Tags.{value-wide}
-use borrow.Author.Needs.{needs}
 use Rattle.reader.proofs.side_is_wrong.Statement.{statement}
 use Rattle.reader.proofs.side_is_wrong.Tie as tie
 

@@ -2,7 +2,6 @@
 use mathlib.Core.Logic.{inl}
 use Rattle.reel.specs.Reel.{yes}
 use Rattle.reel.proofs.Testing.{handed}
-use borrow.Author.Needs.{needs}
 use Rattle.reel.proofs.is_at_hand.Statement.{statement}
 use Rattle.reel.proofs.is_at_hand.Tie as tie
 

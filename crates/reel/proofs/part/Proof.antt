@@ -1,8 +1,7 @@
 -- `reel::part` meets its contract. Assumes nothing.
 use Rattle.reel.proofs.Along.{Along, begun, asks, onward, lessens, places, parted}
-use native.Mathlib.Omega.{arith}
-use mathlib.Core.Path.{_≡_, refl, sym, ap, _∙_}
-use Prim.Native.Nat.{ℕ, _+_, _-_, _≤_}
+use mathlib.Core.Path.{_≡_, refl, _∙_}
+use Prim.Native.Nat.{_+_, _-_}
 use lib.ListN.{length}
 use Rattle.rules.specs.Whole.{one}
 use Rattle.ledger.specs.Stock.{stock}

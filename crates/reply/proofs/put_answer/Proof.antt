@@ -1,12 +1,11 @@
 -- `reply::put_answer` meets its contract. Assumes nothing.
 use native.Mathlib.Omega.{arith}
-use mathlib.Core.Path.{_≡_, sym, ap, subst, _∙_}
+use mathlib.Core.Path.{subst}
 use Prim.Native.Nat.{ℕ}
 use Rattle.models.specs.Readings.{eventOf}
 use Rattle.stats.specs.Statistics.{fillsIn}
 use Rattle.overlay.specs.Over.{Put}
 use Rattle.overlay.proofs.Over.{put-more}
-use Rattle.text.specs.Text.{eventLine}
 use Rattle.text.proofs.Lines.{event-length}
 use Rattle.feed.specs.Feed.{fillLines}
 use borrow.Author.Needs.{needs}

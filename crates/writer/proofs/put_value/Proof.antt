@@ -1,7 +1,5 @@
 -- `writer::put_value` meets its contract. Assumes nothing.
-use mathlib.Core.Path.{_≡_, sym, ap, subst, _∙_}
-use mathlib.Core.List.{List, [], _∷_, _++_}
-use Prim.Native.Nat.{ℕ, _+_}
+use mathlib.Core.Path.{ap}
 use native.Mathlib.Omega.{arith}
 use Rattle.models.specs.declared.OrderType.{OrderType}
 use Rattle.overlay.proofs.Over.{put-more}

@@ -1,8 +1,8 @@
 -- `writer::write_order` meets its contract. Assumes nothing.
 use Rattle.tape.proofs.Tags.{field-length, value-most}
 use mathlib.Core.Path.{_≡_, sym, ap, subst, _∙_}
-use mathlib.Core.List.{List, [], _∷_, _++_}
-use Prim.Native.Nat.{ℕ, _+_}
+use mathlib.Core.List.{List}
+use Prim.Native.Nat.{ℕ}
 use native.Mathlib.Omega.{arith}
 use Rattle.overlay.specs.Over.{Put}
 use Rattle.overlay.proofs.Over.{put-more}
