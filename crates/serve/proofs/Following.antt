@@ -10,6 +10,8 @@ use lib.ListN.{length}
 use borrow.Author.Tests.{ltb-false}
 use Rattle.rules.specs.Rules as rule
 use Rattle.rules.specs.Rules.{perform, verdict, refusal, carried, checks, firstOf, outcome, makers}
+use Rattle.rules.specs.Late.{refuses}
+use Rattle.rules.proofs.Demand2.{refused-same}
 use Rattle.models.specs.declared.OrderType.{OrderType}
 use Rattle.models.specs.declared.OrderType.the-variants.{Market, Limit, Cancel}
 use Rattle.models.specs.declared.OrderEvent.{OrderEvent}
@@ -96,21 +98,6 @@ module _ (z : rule.Size) (d : rule.Desk (Unit {0})) where
   counted n (Limit id side qty price) e l h = order-counted _ e l h
   counted n (Cancel id) e l h = cancel-counted n (id .0) e l h
 
-  -- a refusal changes nothing
-  order-kept : (t : rule.Taker (Unit {0})) (n : ℕ) → (perform z d (rule.order t)) .answer ≡ rule.Answer.refused n → (perform z d (rule.order t)) .desk ≡ d
-  unfolding perform carried
-  order-kept t n h = go (refusal z d t) h
-    where
-      go : (o : Option ℕ) → (verdict o d (carried d t)) .answer ≡ rule.Answer.refused n → (verdict o d (carried d t)) .desk ≡ d
-      go none h = absurd (let y : _≡_ {A = ℕ} 0 1 = cc in let x : ⊥ = omega arith in x)
-      go (some m) h = refl
-
-  kept : (m : ℕ) (o : OrderType) (n : ℕ) → (perform z d (callOf m o)) .answer ≡ rule.Answer.refused n → (perform z d (callOf m o)) .desk ≡ d
-  unfolding perform
-  kept m (Market id side qty) n h = order-kept _ n h
-  kept m (Limit id side qty price) n h = order-kept _ n h
-  kept m (Cancel id) n h = absurd (let y : _≡_ {A = ℕ} 0 1 = cc in let x : ⊥ = omega arith in x)
-
 -- ---- the fills told are those that were made
 
 told-fills : (out out′ : List ℕ) (l : List (rule.Fill (Unit {0}))) (n : ℕ) → n ≡ length l → length l ≤ places fillRow out → out′ ≡ written fillRow out 0 l → (fillsIn out′ n ≡ l) × (length out′ ≡ length out)
@@ -143,7 +130,7 @@ module _ (z : rule.Size) (x x′ : Keeping) (o : OrderType) (a : Answer) (ready 
   follows (refused n h e k s f) =
       record {
         text = ap answerText (refused-any a (fillsIn (x′ .fills) (fillCount a)) n e ∙ sym h ∙ ap (λ (r : rule.Result (Unit {0})). r .answer) same);
-        desk = cc (k, s) ∙ sym (kept z (deskOf x) (places fillRow (x .fills)) o n h) ∙ ap (λ (r : rule.Result (Unit {0})). r .desk) same;
+        desk = cc (k, s) ∙ sym (refused-same z (deskOf x) (callOf (places fillRow (x .fills)) o) (ap refuses h)) ∙ ap (λ (r : rule.Result (Unit {0})). r .desk) same;
         ready = record { whole = subst (WholeStock z) (sym k) (ready .whole); roomy = ap (places fillRow) f ∙ ready .roomy };
       }
   follows (carried-out e l h p d w f) =
