@@ -46,13 +46,9 @@ pub fn mask_of(m: usize) -> u64
     requires { ⌜ 0 < m ⌝ }
     ensures { λ r. ⌜ Masks m r ⌝ }
 {
-    let half = m / 2;
-    let mut w = 1;
-    while w <= half {
-        w += w;
-    }
-    if w == m {
-        return (m - 1) as u64;
+    let k = m as u64;
+    if k & (k - 1) == 0 {
+        return k - 1;
     }
     NO_MASK
 }
@@ -98,7 +94,7 @@ pub fn find(table: &[u64], records: &[u64], id: u64) -> Probe
         × (r .count ≡ (sought (now (table .entry)) (now (records .entry)) id) .count) ⌝ }
 {
     let m = table.len();
-    let mut p = home_of(m, NO_MASK, id);
+    let mut p = home_of(m, mask_of(m), id);
     let mut n = 0;
     while n < m {
         let e = table[p];
