@@ -1,23 +1,26 @@
--- The walk of a queue: what it counts is right, and what is right is counted. Assumes nothing.
+-- The walk of a queue: what it counts is right, and what is right is counted; and how many of its orders the search finds. Assumes nothing.
 use Prim.Native.Nat.{suc, zero, ℕ, _+_, _-_, _<_, _≤_}
-use mathlib.Core.Bool.{cond, false, true}
-use mathlib.Core.List.{List, [], _∷_}
+use mathlib.Core.Bool.{Bool, cond, false, true}
+use mathlib.Core.List.{List, [], _++_, _∷_}
 use mathlib.Core.Logic.{_≢_, ⊎-elim}
-use mathlib.Core.Path.{refl, sym, _∙_, _≡_}
+use mathlib.Core.Path.{ap, refl, sym, _∙_, _≡_}
 use native.Mathlib.Omega.{arith}
 use lib.Dec.{eqb, leb}
 use lib.ListN.{length}
 use borrow.Author.Tests.{eq-eqb, eqb-false, eqb-true, le-leb, leb-true, lt-leb, ne-eqb}
+use Rattle.rules.specs.Whole.{one}
 use Rattle.records.specs.Rows.{field, recordCount}
 use Rattle.records.proofs.Cases.{by, same?, tell}
 use Rattle.records.proofs.Rows.{places-row, row-places}
+use Rattle.search.specs.Seek.{entryFor}
 use Rattle.arena.specs.Free.{chain}
 use Rattle.arena.specs.Links.{link}
 use Rattle.arena.specs.Ring.{Run}
 use Rattle.arena.specs.Times.{times}
 use Rattle.arena.proofs.Free.{run-chain}
 use Rattle.arena.proofs.Times.{one-other, one-self}
-use Rattle.ranks.specs.Ranks.{QueueAt, Under, fit, walked}
+use Rattle.table.specs.Entries.{foundAmong}
+use Rattle.ranks.specs.Ranks.{QueueAt, Under, Walks, fit, walked}
 
 -- ## Chains
 
@@ -169,19 +172,79 @@ module _ (rs : List ℕ) (price tail : ℕ) where
       let nz : suc r ≢ 0 = omega arith in
       rw q (walked-on (suc k) k p (suc r) n nz refl (is-fit rs price p (suc r) f) ∙ (right-walked head l k (suc r) (field rs 3 (suc r)) (n + 1) refl t (omega arith) ∙ omega arith))
 
+-- what a walk of at most m has seen: the whole queue
+pub record Queued (rs : List ℕ) (price head tail m : ℕ) : Type 0 where
+  pub queue : QueueAt rs price head tail
+  pub long : length (chain (recordCount rs) rs head) ≡ walked rs price tail m 0 head 0
+  pub same : chain m rs head ≡ chain (recordCount rs) rs head
+
 -- a walk within the records' number sees the whole queue
 module _ (rs : List ℕ) (price head tail m : ℕ) (l : m ≤ recordCount rs) where
-  pub walk-queue : 1 ≤ walked rs price tail m 0 head 0 → QueueAt rs price head tail × (length (chain (recordCount rs) rs head) ≡ walked rs price tail m 0 head 0)
+  pub walk-queue : 1 ≤ walked rs price tail m 0 head 0 → Queued rs price head tail m
   walk-queue h =
       let w = walked-right rs price tail head m 0 head 0 refl h in
-      let s : chain m rs head ≡ chain (recordCount rs) rs head = run-chain rs head (link rs 4 tail) (recordCount rs) 0 (chain m rs head) (w .0 .ring) (chain-some m rs head) (omega (arith, chain-long m rs head)) in (
-        record {
+      let s : chain m rs head ≡ chain (recordCount rs) rs head = run-chain rs head (link rs 4 tail) (recordCount rs) 0 (chain m rs head) (w .0 .ring) (chain-some m rs head) (omega (arith, chain-long m rs head)) in
+      record {
+        queue = record {
           ring = rw s at (w .0 .ring);
           busy = rw (← s) (omega (arith, w .1));
           under = λ c i. w .0 .under c (rw s i);
-        },
-        rw (← s) (omega (arith, w .1)),
-      )
+        };
+        long = rw (← s) (omega (arith, w .1));
+        same = s;
+      }
 
   pub queue-walk : QueueAt rs price head tail → length (chain (recordCount rs) rs head) ≤ m → walked rs price tail m 0 head 0 ≡ length (chain (recordCount rs) rs head)
   queue-walk q h = right-walked rs price tail head (chain (recordCount rs) rs head) m 0 head 0 refl (record { ring = q .ring; under = q .under }) h ∙ omega arith
+
+-- ## How many of them are found
+
+-- n orders of the walk were looked at, and `found` of them are found; c is the next
+pub record Seen (se rs : List ℕ) (head most n found c : ℕ) : Type 0 where
+  pub few : found ≤ n
+  pub all : found + foundAmong se rs (chain (most - n) rs c) ≡ foundAmong se rs (chain most rs head)
+
+pub seen-start : (se rs : List ℕ) (head most : ℕ) → Seen se rs head most 0 0 head
+seen-start se rs head most = let e : most - 0 ≡ most = omega arith in record { few = omega arith; all = rw e (omega arith) }
+
+chain-turn : (rs : List ℕ) (k j c : ℕ) → c ≢ 0 → k ≡ suc j → chain k rs c ≡ c ∷ chain j rs (field rs 3 c)
+chain-turn rs k j zero h e = absurd (h refl)
+chain-turn rs k j (suc r) h e = rw e
+
+chain-end : (k : ℕ) (rs : List ℕ) → chain k rs 0 ≡ []
+chain-end zero rs = refl
+chain-end (suc k) rs = refl
+
+module _ {se rs : List ℕ} {head most n found c : ℕ} (s : Seen se rs head most n found c) where
+  -- one more, found or not
+  pub seen-more : (d more : ℕ) (b : Bool) → c ≢ 0 → n < most → d ≡ field rs 3 c → b ≡ eqb (entryFor se rs (field rs 0 c)) c → more ≡ found + one b → Seen se rs head most (n + 1) more d
+  seen-more d more b h l e f m =
+      let t = chain-turn rs (most - n) (most - (n + 1)) c h (omega arith) in
+      record {
+        few = omega (arith, s .few, one-most b);
+        all = omega (arith, s .all, ap (foundAmong se rs) t, ap one f, ap (λ (x : ℕ). foundAmong se rs (chain (most - (n + 1)) rs x)) e);
+      }
+    where
+      one-most : (b : Bool) → one b ≤ 1
+      one-most true = omega arith
+      one-most false = omega arith
+
+  pub seen-end : c ≡ 0 → found ≡ foundAmong se rs (chain most rs head)
+  seen-end e = omega (arith, s .all, ap (λ (x : ℕ). foundAmong se rs (chain (most - n) rs x)) e, ap (foundAmong se rs) (chain-end (most - n) rs))
+
+-- of a list no more are found than it has, and of two lists those of each
+pub found-few : (se rs l : List ℕ) → foundAmong se rs l ≤ length l
+found-few se rs [] = omega arith
+found-few se rs (c ∷ l) = go (eqb (entryFor se rs (field rs 0 c)) c) (found-few se rs l)
+  where
+    go : (b : Bool) → foundAmong se rs l ≤ length l → one b + foundAmong se rs l ≤ suc (length l)
+    go true h = omega arith
+    go false h = omega arith
+
+pub found-append : (se rs l m : List ℕ) → foundAmong se rs (l ++ m) ≡ foundAmong se rs l + foundAmong se rs m
+found-append se rs [] m = omega arith
+found-append se rs (c ∷ l) m = omega (arith, found-append se rs l m)
+
+-- a walk that counts nothing
+pub walks-none : (se rs : List ℕ) (price head tail most : ℕ) → walked rs price tail most 0 head 0 ≡ 0 → Walks se rs price head tail most (record { orders = 0; found = 0 })
+walks-none se rs price head tail most e = record { orders = sym e; within = omega arith; found = λ h. absurd (let z : ⊥ = omega arith in z) }

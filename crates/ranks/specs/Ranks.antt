@@ -12,6 +12,8 @@ use Rattle.arena.specs.Ring.{Run}
 use Rattle.arena.specs.Times.{times}
 use Rattle.side.specs.Levels.{ups}
 use Rattle.side.specs.Read.{levelsIn}
+use Rattle.table.specs.Entries.{foundAmong}
+use Rattle.ranks.specs.declared.Tally.{Tally}
 
 -- ## Queues
 
@@ -38,6 +40,12 @@ walked rs price tail zero p (suc r) n = 0
 walked rs price tail (suc k) p zero n = cond (eqb p tail) n 0
 walked rs price tail (suc k) p (suc r) n = cond (fit rs price p (suc r)) (walked rs price tail k (suc r) (field rs 3 (suc r)) (n + 1)) 0
 
+-- so many orders a walk of at most `most` counts, and so many of them the search finds
+pub record Walks (se rs : List ℕ) (price head tail most : ℕ) (r : Tally) : Type 0 where
+  pub orders : r .orders ≡ walked rs price tail most 0 head 0
+  pub within : r .orders ≤ most
+  pub found : 1 ≤ r .orders → r .found ≡ foundAmong se rs (chain most rs head)
+
 -- ## Sides
 
 -- row i's price is above the one before
@@ -49,10 +57,10 @@ pub record SideRight (rs lv : List ℕ) (n : ℕ) : Type 0 where
   pub queue : (i : ℕ) → i < n → QueueAt rs (priceOf lv i) (headOf lv i) (tailOf lv i)
   pub rises : (i : ℕ) → i < n → Rises lv i
 
--- r is the number of their orders, or more than `most` where they are wrong or have more
-pub record Totals (rs lv : List ℕ) (n most r : ℕ) : Type 0 where
-  pub yea : r ≤ most → SideRight rs lv n × (length (ups (levelsIn rs lv n)) ≡ r)
-  pub nay : most < r → SideRight rs lv n → length (ups (levelsIn rs lv n)) ≤ most → ⊥
+-- r has the number of their orders, or more than `most` where they are wrong or have more; and how many of them the search finds
+pub record Totals (se rs lv : List ℕ) (n most : ℕ) (r : Tally) : Type 0 where
+  pub yea : r .orders ≤ most → SideRight rs lv n × (length (ups (levelsIn rs lv n)) ≡ r .orders) × (foundAmong se rs (ups (levelsIn rs lv n)) ≡ r .found)
+  pub nay : most < r .orders → SideRight rs lv n → length (ups (levelsIn rs lv n)) ≤ most → ⊥
 
 -- the highest bid is below the lowest ask
 abbrev pub Parted : List ℕ → List ℕ → ℕ → ℕ → Type 0

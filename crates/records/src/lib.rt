@@ -1,7 +1,8 @@
 // The records of a book: rows of five numbers in lent storage, read and written here and nowhere else.
 // A record is named by its code, its row + 1; code 0 is none.
 ghost use mathlib.Core.Path.{_≡_};
-ghost use Prim.Native.Nat.{_<_};
+ghost use Prim.Native.Nat.{ℕ, _*_, _<_, _≤_};
+ghost use lib.ListN.{length};
 ghost use Rattle.records.specs.Rows.{RecordAt, field, put};
 
 // The columns of a record, and how many there are.
@@ -23,6 +24,14 @@ pub fn load(records: &[u64], f: usize, c: u64) -> u64
     ensures { λ r. ⌜ r ≡ field (now (records .entry)) f c ⌝ }
 {
     records[(c as usize - 1) * WIDTH + f]
+}
+
+// The same, for a walk that keeps beside a record's code where its row ends.
+pub fn load_before(records: &[u64], f: usize, end: usize) -> u64
+    requires { ⌜ (f < 5) × (5 ≤ end) × (end ≤ length (now records)) ⌝ }
+    ensures { λ r. ⌜ ((c : ℕ) → 1 ≤ c → end ≡ c * 5 → r ≡ field (now (records .entry)) f c) ⌝ }
+{
+    records[end - WIDTH + f]
 }
 
 // `v` written there.

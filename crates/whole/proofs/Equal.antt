@@ -12,14 +12,15 @@ use Rattle.search.specs.Seek.{Good, at}
 use Rattle.search.proofs.Entries.{row-inside}
 use Rattle.search.proofs.Walks.{good, sound}
 use Rattle.arena.specs.Times.{isCode, times}
-use Rattle.arena.proofs.Times.{isCode-row, times-append}
+use Rattle.arena.proofs.Times.{isCode-one, isCode-row, times-append}
 use Rattle.side.specs.Levels.{Ladder, ups}
 use Rattle.side.specs.Read.{freeIn, levelsIn}
 use Rattle.ledger.specs.declared.OrderBook.{OrderBook}
 use Rattle.ranks.specs.Ranks.{Parted, SideRight}
-use Rattle.table.specs.Live.{Table}
+use Rattle.table.specs.Entries.{foundAmong, takenIn}
 use Rattle.whole.specs.Whole.{Lengths, Limits, WholeStorage, restingIn}
 use Rattle.whole.proofs.Counting.{all-long, all-once, code-row}
+use Rattle.whole.proofs.Entries.{count-entries, entries-count}
 use Rattle.whole.proofs.Sides.{Each, ladder-sided, side-bottom, side-once, side-top, sided-busy, sided-each, sided-ladder}
 use Rattle.whole.proofs.Spare.{Spared, spared-once}
 
@@ -33,7 +34,7 @@ pub record Sums (z : Size) (b : OrderBook) (rs bd ak se : List ℕ) : Type 0 whe
   pub sum : length (ups (levelsIn rs bd (b .bids))) + length (ups (levelsIn rs ak (b .asks))) ≡ b .resting
   pub spare : Spared rs (b .free) (freeIn rs (b .free))
   pub left : length (freeIn rs (b .free)) ≡ z .orders - b .resting
-  pub table : Table se rs
+  pub entries : foundAmong se rs (restingIn b rs bd ak) ≡ takenIn se
 
 -- no code twice: prices lie apart, and a free place has nothing
 module _ (n : ℕ) (b : OrderBook) (rs bd ak : List ℕ) (long : length rs ≡ n * 5)
@@ -113,7 +114,10 @@ module _ (z : Size) (b : OrderBook) (rs bd ak se : List ℕ) where
       λ c. sym (times-append c (bl ++ al) fl) ∙ all-once (z .orders) ((bl ++ al) ++ fl) (λ x. omega (arith, three x, most x)) full c in
       let each : (c : ℕ) → 1 ≤ times c (bl ++ al) → 1 ≤ field rs 1 c =
       λ c h. ⊎-elim (λ (k : times c bl < 1). ae c (omega (arith, times-append c bl al)) .1) (λ (k : 1 ≤ times c bl). be c k .1) (lt? (times c bl) 1) in
-      let g : Good se rs = record { right = λ p h n. let v = s .table .live p h n in (row-inside (v .0), v .2) } in
+      let rows : (c : ℕ) → 1 ≤ times c (bl ++ al) → RecordAt rs c = λ c h. isCode-row (z .orders) c rs (l .records) (omega (arith, once c)) in
+      let few : (c : ℕ) → times c (bl ++ al) ≤ 1 = λ c. omega (arith, once c, isCode-one (z .orders) c) in
+      let n = count-entries se rs (bl ++ al) (omega (arith, l .search, l .some)) rows few (s .entries) in
+      let g : Good se rs = record { right = λ p h e. (row-inside (rows (at se p) (n p h e .0)), n p h e .1) } in
       let u = sound se rs g in
       record {
         lengths = l;
@@ -128,12 +132,7 @@ module _ (z : Size) (b : OrderBook) (rs bd ak se : List ℕ) where
         apart = s .parted;
         free = s .spare .free;
         none = λ c h. s .spare .bare c h .none;
-        rests = λ p h n.
-            let v = s .table .live p h n in
-            ⊎-elim
-            (λ (k : times (at se p) fl < 1). omega (arith, once (at se p), code-row (z .orders) (at se p) rs (l .records) (v .0)))
-            (λ (k : 1 ≤ times (at se p) fl). absurd (let y : ⊥ = omega (arith, v .1, s .spare .bare (at se p) k .none) in y))
-            (lt? (times (at se p) fl) 1);
+        rests = λ p h e. n p h e .0;
         only = u .one;
         near = u .near;
       }
@@ -142,6 +141,9 @@ module _ (z : Size) (b : OrderBook) (rs bd ak se : List ℕ) where
     -- a resting order is a record that has something
     pub rests-row : (c : ℕ) → 1 ≤ times c (restingIn b rs bd ak) → RecordAt rs c
     rests-row c h = isCode-row (z .orders) c rs (w .lengths .records) (omega (arith, w .once c))
+
+    rests-once : (c : ℕ) → times c (restingIn b rs bd ak) ≤ 1
+    rests-once c = omega (arith, w .once c, isCode-one (z .orders) c)
 
     bid-each : Each rs (levelsIn rs bd (b .bids))
     bid-each c h = let k : 1 ≤ times c (restingIn b rs bd ak) = omega (arith, times-append c bl al) in (rests-row c k, w .some c k)
@@ -171,5 +173,5 @@ module _ (z : Size) (b : OrderBook) (rs bd ak se : List ℕ) where
       sum = omega (arith, w .count, length-append bl al);
       spare = record { free = w .free; bare = λ c h. record { row = free-row c h; none = w .none c h } };
       left = omega (arith, whole-full, w .count, length-append bl al, w .limits .orders);
-      table = record { live = λ p h n. (rests-row (at se p) (w .rests p h n), w .some (at se p) (w .rests p h n), whole-good .right p h n .1) };
+      entries = entries-count se rs (bl ++ al) (omega (arith, w .lengths .search, w .lengths .some)) rests-row rests-once (λ p h n. (w .rests p h n, whole-good .right p h n .1));
     }

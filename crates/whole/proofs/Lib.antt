@@ -3,6 +3,7 @@ pub mod Lengths
 pub mod Levels
 pub mod Sides
 pub mod Counting
+pub mod Entries
 pub mod Equal
 pub mod Verdict
 pub mod Orders

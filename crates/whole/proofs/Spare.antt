@@ -30,15 +30,15 @@ pub record Spared (rs : List ℕ) (f : ℕ) (l : List ℕ) : Type 0 where
   pub bare : (x : ℕ) → 1 ≤ times x l → Bare rs x
 
 module _ (rs : List ℕ) where
-  pub idle-out : (c : ℕ) → recordCount rs < c → idle rs c ≡ false
+  idle-out : (c : ℕ) → recordCount rs < c → idle rs c ≡ false
   unfolding idle
   idle-out c h = rw (lt-leb c (recordCount rs) h)
 
-  pub idle-last : (c : ℕ) → c ≤ recordCount rs → idle rs c ≡ eqb (field rs 1 c) 0
+  idle-last : (c : ℕ) → c ≤ recordCount rs → idle rs c ≡ eqb (field rs 1 c) 0
   unfolding idle
   idle-last c h = rw (le-leb c (recordCount rs) h)
 
-  pub idle-is : (c : ℕ) → idle rs c ≡ true → (c ≤ recordCount rs) × (field rs 1 c ≡ 0)
+  idle-is : (c : ℕ) → idle rs c ≡ true → (c ≤ recordCount rs) × (field rs 1 c ≡ 0)
   unfolding idle
   idle-is c h =
       ⊎-elim
@@ -46,8 +46,8 @@ module _ (rs : List ℕ) where
       (λ (a : leb c (recordCount rs) ≡ false). absurd (tell (idle rs c) h (cc)))
       (by (leb c (recordCount rs)))
 
-  is-idle : (c : ℕ) → Bare rs c → idle rs c ≡ true
-  is-idle c b = idle-last c (places-row (b .row)) ∙ eq-eqb _ _ (b .none)
+  is-idle : (c : ℕ) → c ≤ recordCount rs → field rs 1 c ≡ 0 → idle rs c ≡ true
+  is-idle c h e = idle-last c h ∙ eq-eqb _ _ e
 
   pub idles-end : (k c : ℕ) → k ≡ 0 → idles rs k c ≡ eqb c 0
   unfolding idles
@@ -59,11 +59,20 @@ module _ (rs : List ℕ) where
   idles-short zero c h e = absurd (omega arith)
   idles-short (suc k) c h e = rw e
 
-  pub idles-wrong : (k c : ℕ) → 0 < k → c ≢ 0 → idle rs c ≡ false → idles rs k c ≡ false
+  idles-wrong : (k c : ℕ) → 0 < k → c ≢ 0 → idle rs c ≡ false → idles rs k c ≡ false
   unfolding idles
   idles-wrong zero c h n f = absurd (omega arith)
   idles-wrong (suc k) zero h n f = refl
   idles-wrong (suc k) (suc r) h n f = rw f
+
+  -- a code of no record
+  pub idles-out : (k c : ℕ) → recordCount rs < c → idles rs k c ≡ false
+  idles-out zero c h = idles-end zero c refl ∙ ne-eqb c 0 (omega arith)
+  idles-out (suc k) c h = idles-wrong (suc k) c (omega arith) (omega arith) (idle-out c h)
+
+  -- a record with something
+  pub idles-full : (k c q : ℕ) → 0 < k → c ≢ 0 → c ≤ recordCount rs → q ≢ 0 → q ≡ field rs 1 c → idles rs k c ≡ false
+  idles-full k c q h n g f e = idles-wrong k c h n (idle-last c g ∙ ne-eqb _ _ (λ z. f (e ∙ z)))
 
   idles-on : (k j c : ℕ) → k ≡ suc j → c ≢ 0 → idle rs c ≡ true → idles rs k c ≡ idles rs j (field rs 3 c)
   unfolding idles
@@ -71,8 +80,8 @@ module _ (rs : List ℕ) where
   idles-on k j (suc r) e n f = rw (e, f)
 
   -- a turn of the walk, with k still to come
-  pub idles-turn : (k c d : ℕ) → 0 < k → c ≢ 0 → idle rs c ≡ true → d ≡ field rs 3 c → idles rs k c ≡ idles rs (k - 1) d
-  idles-turn k c d h n f e = rw e (idles-on k (k - 1) c (omega arith) n f)
+  pub idles-turn : (k c q d : ℕ) → 0 < k → c ≢ 0 → c ≤ recordCount rs → q ≡ 0 → q ≡ field rs 1 c → d ≡ field rs 3 c → idles rs k c ≡ idles rs (k - 1) d
+  idles-turn k c q d h n g z f e = rw e (idles-on k (k - 1) c (omega arith) n (is-idle c g (sym f ∙ z)))
 
   idles-right : (k c : ℕ) → idles rs k c ≡ true → Spared rs c (chain k rs c) × (length (chain k rs c) ≡ k)
   unfolding idles
@@ -95,7 +104,7 @@ module _ (rs : List ℕ) where
   right-idles (d ∷ l) (suc k) c s e =
       let b = s .bare d (omega (arith, one-self d)) in
       let nz : d ≢ 0 = omega (arith, b .row .some) in
-      rw (s .free .0) (idles-on (suc k) k d refl nz (is-idle d b) ∙ right-idles l k (field rs 3 d) (record { free = s .free .1; bare = λ x i. s .bare x (omega arith) }) (omega arith))
+      rw (s .free .0) (idles-on (suc k) k d refl nz (is-idle d (places-row (b .row)) (b .none)) ∙ right-idles l k (field rs 3 d) (record { free = s .free .1; bare = λ x i. s .bare x (omega arith) }) (omega arith))
 
   -- k free places, all of them
   pub spare-right : (k c : ℕ) → k ≤ recordCount rs → idles rs k c ≡ true → Spared rs c (chain (recordCount rs) rs c) × (length (chain (recordCount rs) rs c) ≡ k)

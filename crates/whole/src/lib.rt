@@ -1,12 +1,13 @@
 // Is it whole? Document 01's 'A whole book' decided exactly, on any slices, in one pass over the records, the prices and the places of the search.
-// No marks: a chain that ends has no repeats, queues of different prices share nothing, a free record has quantity 0, and the lengths add up.
+// No marks: a chain that ends has no repeats, queues of different prices share nothing, a free record has quantity 0, and the lengths add up. The search
+// finds only resting orders, each at a place of its own, exactly where as many of them are found as places are taken.
 // Crate ranks looks at the queues and the sides, crate table at the search.
 ghost use mathlib.Core.Path.{_≡_};
 ghost use Prim.Native.Nat.{_*_, _≤_};
 ghost use Rattle.search.specs.Seek.{Decides};
 ghost use Rattle.ledger.specs.Stock.{stock};
 ghost use Rattle.whole.specs.Whole.{WholeStock, Lengths, Limits, sizeOf};
-ghost use Rattle.whole.specs.Spare.{idle, idles};
+ghost use Rattle.whole.specs.Spare.{idles};
 use arena::ROW;
 use ledger::OrderBook;
 use ranks::is_parted;
@@ -14,8 +15,9 @@ use ranks::side_total;
 use records::NEXT;
 use records::QUANTITY;
 use records::WIDTH;
-use records::load;
-use table::is_table;
+use records::load_before;
+use search::mask_of;
+use table::taken;
 
 // The size of a hall: how many orders may rest, and how many prices a side may have.
 pub struct Size {
@@ -78,32 +80,36 @@ fn is_limited(size: Size, book: OrderBook) -> bool
     true
 }
 
-// Whether `c` is the code of a record with nothing.
-fn is_idle(records: &[u64], c: u64) -> bool
-    requires { ⌜ 1 ≤ c ⌝ }
-    ensures { λ r. ⌜ r ≡ idle (now (records .entry)) c ⌝ }
-{
-    if records.len() / WIDTH < c as usize {
-        return false;
-    }
-    load(records, QUANTITY, c) == 0
-}
-
-// Whether the chain from `free` has `count` records, each with nothing.
+// Whether the chain from `free` has `count` records, each with nothing. Places that were never used follow each other downwards: there the next one is
+// looked at without waiting for the record to name it.
 fn is_spare(records: &[u64], free: u64, count: usize) -> bool
     ensures { λ r. ⌜ r ≡ idles (now (records .entry)) count free ⌝ }
 {
+    let most = records.len() / WIDTH;
+    if most < free as usize {
+        return false;
+    }
     let mut c = free;
+    let mut end = free as usize * WIDTH;
     let mut k = count;
     while k > 0 {
         if c == 0 {
             return false;
         }
-        if !is_idle(records, c) {
+        if load_before(records, QUANTITY, end) != 0 {
             return false;
         }
-        c = load(records, NEXT, c);
+        let next = load_before(records, NEXT, end);
         k -= 1;
+        c -= 1;
+        end -= WIDTH;
+        if next != c {
+            if most < next as usize {
+                return false;
+            }
+            c = next;
+            end = next as usize * WIDTH;
+        }
     }
     c == 0
 }
@@ -126,12 +132,13 @@ pub fn is_whole(
         return false;
     }
     let resting = book.resting;
-    let b = side_total(records, bids, book.bids, resting);
-    if b > resting {
+    let mask = mask_of(search.len());
+    let b = side_total(records, search, mask, bids, book.bids, resting);
+    if b.orders > resting {
         return false;
     }
-    let a = side_total(records, asks, book.asks, resting - b);
-    if a != resting - b {
+    let a = side_total(records, search, mask, asks, book.asks, resting - b.orders);
+    if a.orders != resting - b.orders {
         return false;
     }
     if !is_parted(bids, asks, book.bids, book.asks) {
@@ -140,5 +147,5 @@ pub fn is_whole(
     if !is_spare(records, book.free, size.orders - resting) {
         return false;
     }
-    is_table(search, records)
+    taken(search) == b.found + a.found
 }
