@@ -33,7 +33,7 @@ module _ {rs bd ak se : List ℕ} {r f nb na : ℕ} (w : LedgerIn rs bd ak se r 
   pub ask-count : length (levels (storedBook rs bd ak se nb na .asks)) ≡ na
   ask-count = levels-count standing-asks ask (found se rs)
 
--- the rows lie within storage: `first_occupied` (and `is_new_price` by `rising` of Sides)
+-- the rows lie within storage: `best` (and `is_new_price` by `rising` of Sides)
 pub rows-within : {rs lv : List ℕ} {n : ℕ} → Standing rs lv n → n * 3 ≤ length lv
 rows-within s = s .ladder .room
 

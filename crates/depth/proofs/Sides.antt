@@ -1,21 +1,17 @@
 -- A side that stands: its rows, as a walk reads them. Assumes nothing.
 use Prim.Native.Nat.{ℕ, _+_, _<_, _≤_}
-use mathlib.Core.List.{List, [], _∷_}
-use mathlib.Core.Logic.{_≢_}
+use mathlib.Core.List.{List}
 use mathlib.Core.Path.{ap, _∙_, _≡_}
 use native.Mathlib.Omega.{arith}
 use lib.ListN.{length}
 use Rattle.records.specs.Rows.{RecordAt, recordCount}
 use Rattle.arena.specs.Links.{headOf, link, tailOf}
-use Rattle.arena.specs.Ring.{Run}
 use Rattle.arena.specs.Times.{times}
-use Rattle.arena.proofs.Times.{one-self}
 use Rattle.side.specs.Levels.{Lvl, nth}
 use Rattle.side.specs.Read.{levelsIn}
 use Rattle.side.specs.Prices.{Rising}
 use Rattle.side.proofs.Levels.{nth-times}
 use Rattle.side.proofs.Own.{from-nth}
-use Rattle.ledger.proofs.Best.{busy-at}
 use Rattle.depth.specs.Sides.{QueueIn, Standing, queueIn}
 use Rattle.depth.proofs.Queues.{ring-ends}
 
@@ -43,14 +39,6 @@ module _ {rs lv : List ℕ} {n : ℕ} (s : Standing rs lv n) where
         ends = rw e at (ring-ends (link rs 4 (tailOf lv i)) (headOf lv i) 0 (nth ws i .queue) (v .ring) (row-rows i h));
         rows = λ x j. row-rows i h x (rw e j);
       }
-
-  -- it is not empty
-  pub head-some : (i : ℕ) → i < n → headOf lv i ≢ 0
-  head-some i h = go (nth ws i .queue) (busy-at ws i (s .busy) (some-row i h)) (s .ladder .level i h .ring) (row-rows i h)
-    where
-      go : (q : List ℕ) → 1 ≤ length q → Run (link rs 3 (headOf lv i)) (link rs 4 (tailOf lv i)) 0 q 0 → ((x : ℕ) → 1 ≤ times x q → RecordAt rs x) → headOf lv i ≢ 0
-      go [] o r k = absurd (let z : ⊥ = omega arith in z)
-      go (x ∷ q) o r k = λ z. omega (arith, k x (omega (arith, one-self x)) .some, r .0)
 
   -- the rows as the search for a price sees them
   pub rising : Rising lv n

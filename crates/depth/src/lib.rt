@@ -51,21 +51,16 @@ pub struct Lookup {
     pub count: usize,
 }
 
-// The best price of a side: that of the first row whose queue is not empty.
-pub fn first_occupied(levels: &[u64], n: usize, side: Side) -> Quote
+// The best price of a side: of asks that of the first row, of bids that of the last row in use.
+pub fn best(levels: &[u64], n: usize, side: Side) -> Quote
     requires { ⌜ n * 3 ≤ length (now levels) ⌝ }
     ensures { λ q. ⌜ ((rs : List ℕ) (fnd : ℕ → Bool) → Standing rs (now (levels .entry)) n
         → quoteOf q ≡ rule.best (ordersIn (sideOf side) rs fnd (now (levels .entry)) n)) ⌝ }
 {
-    let mut left = n;
-    while 0 < left {
-        let at = visit(side, n, left) * ROW;
-        if levels[at + HEAD] != 0 {
-            return Quote::Present(Price(levels[at]));
-        }
-        left -= 1;
+    if n == 0 {
+        return Quote::Absent;
     }
-    Quote::Absent
+    Quote::Present(Price(levels[visit(side, n, n) * ROW]))
 }
 
 // The quantities of a queue together.

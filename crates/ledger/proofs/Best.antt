@@ -1,16 +1,18 @@
 -- The best order of a side: the first of its best level's queue. Assumes nothing.
-use Prim.Native.Nat.{suc, zero, ℕ, _*_, _+_, _-_, _<_, _≤_}
+use Prim.Native.Nat.{suc, zero, ℕ, _-_, _<_, _≤_}
 use mathlib.Core.List.{List, [], _++_, _∷_}
-use mathlib.Core.Path.{ap, subst, sym, _≡_}
+use mathlib.Core.Path.{ap, subst, sym, _∙_, _≡_}
 use native.Mathlib.Omega.{arith}
-use lib.ListN.{getD, length}
-use Rattle.rules.specs.Rules.{ask, bid}
-use Rattle.arena.specs.Links.{link}
+use lib.ListN.{length}
+use Rattle.rules.specs.Rules.{Side, ask, bid}
+use Rattle.records.specs.Rows.{field}
+use Rattle.arena.specs.Links.{headOf, link, priceOf}
 use Rattle.arena.specs.Ring.{Run}
 use Rattle.arena.specs.Times.{times}
 use Rattle.arena.proofs.Times.{one-self}
-use Rattle.side.specs.Levels.{Lvl, downs, nth, ups}
+use Rattle.side.specs.Levels.{Ladder, Lvl, downs, nth, ups}
 use Rattle.side.specs.Orders.{codes}
+use Rattle.side.specs.Prices.{rowInTurn}
 use Rattle.side.specs.Read.{levelsIn}
 use Rattle.models.specs.declared.Side as models
 use Rattle.models.specs.Readings.{sideOf}
@@ -43,26 +45,33 @@ ups-front : (ws : List Lvl) (x : ℕ) (q : List ℕ) → 1 ≤ length ws → nth
 ups-front [] x q h e = absurd (let z : ⊥ = omega arith in z)
 ups-front (v ∷ ws) x q h e = (q ++ ups ws, ap (λ (l : List ℕ). l ++ ups ws) e)
 
+-- ## One side
+module _ {rs lv : List ℕ} {n : ℕ} {ws : List Lvl} (a : Ladder rs lv n ws) (b : Busy ws) where
+  -- a row's queue begins with its head,
+  row-front : (i : ℕ) → i < n → (q : List ℕ) × (nth ws i .queue ≡ headOf lv i ∷ q)
+  row-front i h = first-of rs (nth ws i .queue) _ _ (a .level i h .ring) (busy-at ws i b (omega (arith, a .count)))
+
+  -- an order of the row's price
+  pub front-price : (i : ℕ) → i < n → field rs 2 (headOf lv i) ≡ priceOf lv i
+  front-price i h =
+      let o = row-front i h in
+      a .level i h .priced (headOf lv i) (omega (arith, ap (times (headOf lv i)) (o .1), one-self (headOf lv i))) ∙ sym (a .level i h .price)
+
+  -- the best of the side is the head of the row whose turn is first
+  pub front-of : (sd : Side) → 1 ≤ n → (l : List ℕ) × (codes sd ws ≡ headOf lv (rowInTurn sd n n) ∷ l)
+  front-of bid h = let o = row-front (n - 1) (omega arith) in downs-front ws (n - 1) _ (o .0) (omega (arith, a .count)) (o .1)
+  front-of ask h =
+      let e : n - n ≡ 0 = omega arith in
+      let o = row-front 0 h in
+      rw e (ups-front ws _ (o .0) (omega (arith, a .count)) (o .1))
+
+-- ## Both sides
 module _ {rs bd ak se : List ℕ} {r f nb na : ℕ} (w : LedgerIn rs bd ak se r f nb na) where
-  abbrev bw : List Lvl
-  bw = levelsIn rs bd nb
+  pub front-bid : 1 ≤ nb → (l : List ℕ) × (codes bid (levelsIn rs bd nb) ≡ headOf bd (nb - 1) ∷ l)
+  front-bid h = front-of (w .stored .mine) (w .busy) bid h
 
-  abbrev aw : List Lvl
-  aw = levelsIn rs ak na
-
-  pub front-bid : 1 ≤ nb → (l : List ℕ) × (codes bid bw ≡ getD bd ((nb - 1) * 3 + 1) 0 ∷ l)
-  front-bid h =
-      let s = w .stored .mine in
-      let k : nb - 1 < length bw = omega (arith, s .count) in
-      let o = first-of rs (nth bw (nb - 1) .queue) _ _ (s .level (nb - 1) (omega arith) .ring) (busy-at bw (nb - 1) (w .busy) k) in
-      downs-front bw (nb - 1) _ (o .0) (omega (arith, s .count)) (o .1)
-
-  pub front-ask : 1 ≤ na → (l : List ℕ) × (codes ask aw ≡ getD ak 1 0 ∷ l)
-  front-ask h =
-      let s = w .stored .theirs in
-      let k : 0 < length aw = omega (arith, s .count) in
-      let o = first-of rs (nth aw 0 .queue) _ _ (s .level 0 (omega arith) .ring) (busy-at aw 0 (w .busy-two) k) in
-      ups-front aw _ (o .0) (omega (arith, s .count)) (o .1)
+  pub front-ask : 1 ≤ na → (l : List ℕ) × (codes ask (levelsIn rs ak na) ≡ headOf ak 0 ∷ l)
+  front-ask h = let e : na - na ≡ 0 = omega arith in rw e at (front-of (w .stored .theirs) (w .busy-two) ask h)
 
 -- what `front` asks, once its match has told the side
 pub front-at : (b : OrderBook) (bd ak : List ℕ) {x y : models.Side} → x ≡ y → Fronted (sideOf x) b bd ak → Fronted (sideOf y) b bd ak

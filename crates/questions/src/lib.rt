@@ -8,7 +8,7 @@ ghost use Rattle.depth.specs.Answers.{quoteOf};
 ghost use Rattle.questions.specs.Questions.{Below, Tells, lowestAsk, highestBid, spreadOf, Shows, Finds};
 use depth::Lookup;
 use depth::Quote;
-use depth::first_occupied;
+use depth::best;
 use depth::look;
 use depth::put_depth;
 use depth::totals_fit;
@@ -59,7 +59,7 @@ pub fn min_ask(
     if !is_whole(size, book, records, bids, asks, search) {
         return Quoted::Refused(NOT_WHOLE);
     }
-    let quote = first_occupied(asks, book.asks, Side::Ask);
+    let quote = best(asks, book.asks, Side::Ask);
     Quoted::Told(quote)
 }
 
@@ -77,7 +77,7 @@ pub fn max_bid(
     if !is_whole(size, book, records, bids, asks, search) {
         return Quoted::Refused(NOT_WHOLE);
     }
-    let quote = first_occupied(bids, book.bids, Side::Bid);
+    let quote = best(bids, book.bids, Side::Bid);
     Quoted::Told(quote)
 }
 
@@ -109,8 +109,8 @@ pub fn spread(
     if !is_whole(size, book, records, bids, asks, search) {
         return Quoted::Refused(NOT_WHOLE);
     }
-    let bid = first_occupied(bids, book.bids, Side::Bid);
-    let ask = first_occupied(asks, book.asks, Side::Ask);
+    let bid = best(bids, book.bids, Side::Bid);
+    let ask = best(asks, book.asks, Side::Ask);
     let quote = between(bid, ask);
     Quoted::Told(quote)
 }

@@ -1,8 +1,8 @@
 -- What a desk (the doors' invariant) says of the rules' book that it stands for: its orders stand in their turns, its counts are the book's,
--- a price of its rows is an occupied one, and the best is at the front. Assumes nothing.
-use Prim.Native.Nat.{ℕ, _*_, _+_, _-_, _<_, _≤_}
+-- and a price of its rows is an occupied one. Assumes nothing.
+use Prim.Native.Nat.{ℕ, _*_, _+_, _<_, _≤_}
 use mathlib.Core.Bool.{Bool, false}
-use mathlib.Core.List.{List, [], _∷_}
+use mathlib.Core.List.{List}
 use mathlib.Core.Logic.{_≢_}
 use mathlib.Core.Option.{some}
 use mathlib.Core.Path.{ap, sym, _∙_, _≡_}
@@ -10,14 +10,12 @@ use native.Mathlib.Omega.{arith}
 use lib.Dec.{leb}
 use lib.ListN.{length}
 use borrow.Author.Tests.{leb-false}
-use Rattle.rules.specs.Rules.{Book, Side, Size, ask, best, bid, crowded, full, levels, occupied, own}
+use Rattle.rules.specs.Rules.{Book, Side, Size, ask, bid, crowded, full, levels, occupied, own}
 use Rattle.rules.specs.Whole.{Once, Sorted}
 use Rattle.records.specs.Rows.{field, recordCount}
 use Rattle.search.specs.Seek.{entryFor}
-use Rattle.arena.specs.Links.{headOf, link, priceOf, tailOf}
-use Rattle.arena.specs.Ring.{Run}
+use Rattle.arena.specs.Links.{priceOf}
 use Rattle.arena.specs.Times.{times}
-use Rattle.arena.proofs.Times.{one-self}
 use Rattle.side.specs.Doors.{RoomFor}
 use Rattle.side.specs.Levels.{Ladder, Lvl, nth, ups}
 use Rattle.side.specs.Orders.{codes, orders}
@@ -29,18 +27,14 @@ use Rattle.side.proofs.Stored.{at-most-one}
 use Rattle.ledger.specs.Stock.{Stock}
 use Rattle.ledger.specs.Desk.{Busy, LedgerIn, Tidy, found, readBook, storedBook}
 use Rattle.ledger.specs.Doors.{RoomOn}
-use Rattle.ledger.proofs.Best.{busy-at, front-ask, front-bid, some-of}
+use Rattle.ledger.proofs.Best.{busy-at, some-of}
 use Rattle.whole.specs.Whole.{Lengths}
 use Rattle.whole.proofs.Orders.{codes-length, levels-side, occupied-no, orders-length, seen-most, sorted-side}
 
--- how many rows a side has, and the price of the best
+-- how many rows a side has
 abbrev pub countOn : Side → ℕ → ℕ → ℕ
 countOn bid nb na = nb
 countOn ask nb na = na
-
-abbrev pub frontPrice : Side → List ℕ → List ℕ → ℕ → ℕ
-frontPrice bid bd ak nb = priceOf bd (nb - 1)
-frontPrice ask bd ak nb = priceOf ak 0
 
 -- ## One side
 
@@ -74,16 +68,6 @@ module _ {rs lv : List ℕ} {n : ℕ} {ws : List Lvl} (a : Ladder rs lv n ws) wh
         let o : occupied p (orders rs fnd (codes s ws)) ≡ false = new-price p h in
         let k : leb (z .prices) (length (levels (orders rs fnd (codes s ws)))) ≡ false = rw o at e in
         omega (arith, leb-false (z .prices) (length (levels (orders rs fnd (codes s ws)))) k, rows-levels b)
-
-  -- the head of a row is an order of its price
-  pub front-price : Busy ws → (i : ℕ) → i < n → field rs 2 (headOf lv i) ≡ priceOf lv i
-  front-price b i h =
-      let v = a .level i h in
-      first (nth ws i .queue) (v .ring) (busy-at ws i b (omega (arith, a .count))) (v .priced) ∙ sym (v .price)
-    where
-      first : (q : List ℕ) → Run (link rs 3 (headOf lv i)) (link rs 4 (tailOf lv i)) 0 q 0 → 1 ≤ length q → {p : ℕ} → ((x : ℕ) → 1 ≤ times x q → field rs 2 x ≡ p) → field rs 2 (headOf lv i) ≡ p
-      first [] r o k = absurd (let z : ⊥ = omega arith in z)
-      first (x ∷ q) r o k = ap (field rs 2) (r .0) ∙ k x (omega (arith, one-self x))
 
 -- ## The whole desk
 
@@ -131,22 +115,6 @@ module _ {rs bd ak se : List ℕ} {r f nb na : ℕ} (w : LedgerIn rs bd ak se r 
         codes-times ask c (levelsIn rs ak na),
         at-most-one (w .stored) c,
       )
-
-  -- ## The front: the price of the row there is the best
-
-  pub desk-best : (s : Side) → 1 ≤ countOn s nb na → best (own s kept) ≡ some (frontPrice s bd ak nb)
-  desk-best bid h =
-      let x = front-bid w h in
-      let e : field rs 2 (headOf bd (nb - 1)) ≡ priceOf bd (nb - 1) = front-price (w .stored .mine) (w .busy) (nb - 1) (omega arith) in
-      rw (x .1) (ap some e)
-  desk-best ask h =
-      let x = front-ask w h in
-      let e : field rs 2 (headOf ak 0) ≡ priceOf ak 0 = front-price (w .stored .theirs) (w .busy-two) 0 h in
-      rw (x .1) (ap some e)
-
-  pub desk-none : (s : Side) → countOn s nb na ≡ 0 → own s kept ≡ []
-  desk-none bid e = rw e
-  desk-none ask e = rw e
 
 -- what refusal 5 lets pass has room
 pub desk-room : {k : Stock} (w : Tidy k) (z : Size) (s : Side) (p : ℕ) → Lengths z (k .records) (k .bids) (k .asks) (k .search)

@@ -1,4 +1,4 @@
--- `questions::max_bid` meets its contract: on a whole book the highest bid is the price of the last occupied row. Assumes nothing.
+-- `questions::max_bid` meets its contract: on a whole book the highest bid is the price of the last row in use. Assumes nothing.
 use mathlib.Core.Path.{refl, ap}
 use borrow.Author.Tests.{not-true, not-false}
 use Rattle.ledger.specs.Desk.{found}
@@ -16,11 +16,11 @@ is-whole-requires c κs = search needs
 returns : tie.Need-returns
 returns c = broken (λ w. c .before .is-whole .ensures .nay (not-true _ (c .if1 .taken)) w) refl
 
-first-occupied-requires : tie.Need-first-occupied-requires
-first-occupied-requires c κs = rows-within (standing-bids (whole-desk (c .before .is-whole .ensures .yea (not-false _ (c .if1 .left)))))
+best-requires : tie.Need-best-requires
+best-requires c κs = rows-within (standing-bids (whole-desk (c .before .is-whole .ensures .yea (not-false _ (c .if1 .left)))))
 
 returns-2 : tie.Need-returns-2
-returns-2 c = let w = c .before .before .is-whole .ensures .yea (not-false _ (c .before .if1 .left)) in told w (ap value (c .first-occupied .ensures (c .before .before .before .before .before .before .before .args .records .now) (found (c .before .before .before .before .before .before .before .args .search .now) (c .before .before .before .before .before .before .before .args .records .now)) (standing-bids (whole-desk w))))
+returns-2 c = let w = c .before .before .is-whole .ensures .yea (not-false _ (c .before .if1 .left)) in told w (ap value (c .best .ensures (c .before .before .before .before .before .before .before .args .records .now) (found (c .before .before .before .before .before .before .before .args .search .now) (c .before .before .before .before .before .before .before .args .records .now)) (standing-bids (whole-desk w))))
 
 pub max-bid-spec : {M : Type 1} → statement M
-max-bid-spec = tie.close (tie.spec is-whole-requires returns first-occupied-requires returns-2)
+max-bid-spec = tie.close (tie.spec is-whole-requires returns best-requires returns-2)

@@ -17,17 +17,17 @@ is-whole-requires c κs = search needs
 returns : tie.Need-returns
 returns c = broken (λ w. c .before .is-whole .ensures .nay (not-true _ (c .if1 .taken)) w) refl
 
-first-occupied-requires : tie.Need-first-occupied-requires
-first-occupied-requires c κs = rows-within (standing-bids (whole-desk (c .before .is-whole .ensures .yea (not-false _ (c .if1 .left)))))
+best-requires : tie.Need-best-requires
+best-requires c κs = rows-within (standing-bids (whole-desk (c .before .is-whole .ensures .yea (not-false _ (c .if1 .left)))))
 
-first-occupied-requires-2 : tie.Need-first-occupied-requires-2
-first-occupied-requires-2 c κs = rows-within (standing-asks (whole-desk (c .before .before .is-whole .ensures .yea (not-false _ (c .before .if1 .left)))))
+best-requires-2 : tie.Need-best-requires-2
+best-requires-2 c κs = rows-within (standing-asks (whole-desk (c .before .before .is-whole .ensures .yea (not-false _ (c .before .if1 .left)))))
 
 between-requires : tie.Need-between-requires
-between-requires c κs = let w = c .before .before .before .is-whole .ensures .yea (not-false _ (c .before .before .if1 .left)) in let rs = c .before .before .before .before .before .before .before .before .args .records .now in let fnd = found (c .before .before .before .before .before .before .before .before .args .search .now) rs in below (record { book = c .before .before .before .before .before .before .before .before .args .book; records = rs; bids = c .before .before .before .before .before .before .before .before .args .bids .now; asks = c .before .before .before .before .before .before .before .before .args .asks .now; search = c .before .before .before .before .before .before .before .before .args .search .now }) w (c .before .first-occupied .result) (c .first-occupied2 .result) (c .before .first-occupied .ensures rs fnd (standing-bids (whole-desk w))) (c .first-occupied2 .ensures rs fnd (standing-asks (whole-desk w)))
+between-requires c κs = let w = c .before .before .before .is-whole .ensures .yea (not-false _ (c .before .before .if1 .left)) in let rs = c .before .before .before .before .before .before .before .before .args .records .now in let fnd = found (c .before .before .before .before .before .before .before .before .args .search .now) rs in below (record { book = c .before .before .before .before .before .before .before .before .args .book; records = rs; bids = c .before .before .before .before .before .before .before .before .args .bids .now; asks = c .before .before .before .before .before .before .before .before .args .asks .now; search = c .before .before .before .before .before .before .before .before .args .search .now }) w (c .before .best .result) (c .best2 .result) (c .before .best .ensures rs fnd (standing-bids (whole-desk w))) (c .best2 .ensures rs fnd (standing-asks (whole-desk w)))
 
 returns-2 : tie.Need-returns-2
-returns-2 c = let w = c .before .before .before .before .is-whole .ensures .yea (not-false _ (c .before .before .before .if1 .left)) in let rs = c .before .before .before .before .before .before .before .before .before .args .records .now in let fnd = found (c .before .before .before .before .before .before .before .before .before .args .search .now) rs in told w (ap value (spread-same (c .before .before .first-occupied .result) (c .before .first-occupied2 .result) (c .between .result) (c .between .ensures) (c .before .before .first-occupied .ensures rs fnd (standing-bids (whole-desk w))) (c .before .first-occupied2 .ensures rs fnd (standing-asks (whole-desk w)))))
+returns-2 c = let w = c .before .before .before .before .is-whole .ensures .yea (not-false _ (c .before .before .before .if1 .left)) in let rs = c .before .before .before .before .before .before .before .before .before .args .records .now in let fnd = found (c .before .before .before .before .before .before .before .before .before .args .search .now) rs in told w (ap value (spread-same (c .before .before .best .result) (c .before .best2 .result) (c .between .result) (c .between .ensures) (c .before .before .best .ensures rs fnd (standing-bids (whole-desk w))) (c .before .best2 .ensures rs fnd (standing-asks (whole-desk w)))))
 
 pub spread-spec : {M : Type 1} → statement M
 spread-spec =
@@ -35,7 +35,7 @@ spread-spec =
     (tie.spec
     is-whole-requires
     returns
-    first-occupied-requires
-    first-occupied-requires-2
+    best-requires
+    best-requires-2
     between-requires
     returns-2)
