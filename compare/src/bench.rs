@@ -358,6 +358,35 @@ pub fn checks(repetitions: usize) -> String {
     out
 }
 
+/// What a quote costs beside the check that comes before it: 256 resting orders at few and at many prices.
+pub fn quotes(repetitions: usize) -> String {
+    let mut out = String::from(
+        "| prices a side | the check, ns | lowest ask | highest bid | spread | lobster's spread, ns |\n|---|---|---|---|---|---|\n",
+    );
+    for prices in [1, 16, PRICES as u64] {
+        let book = filled(OrderBook::default(), 2 * PRICES as u64, prices);
+        let theirs = filled(lobster::OrderBook::default(), 2 * PRICES as u64, prices);
+        let (stored, mut answer) = (book.stored(), [0; 4]);
+        let mut times = [vec![], vec![], vec![], vec![], vec![]];
+        for _ in 0..repetitions {
+            let time = |f: &mut dyn FnMut()| worked(BATCH, || (0..BATCH).for_each(|_| f()));
+            let check = time(&mut || hold(black_box(stored).check(Size::BASE)));
+            let ask = time(&mut || hold(black_box(stored).min_ask(&mut answer)));
+            let bid = time(&mut || hold(black_box(stored).max_bid(&mut answer)));
+            let spread = time(&mut || hold(black_box(stored).spread(&mut answer)));
+            let other = time(&mut || hold(black_box(&theirs).spread()));
+            for (list, time) in times.iter_mut().zip([check, ask - check, bid - check, spread - check, other]) {
+                list.push(time);
+            }
+        }
+        let [check, ask, bid, spread, other] = times.map(median);
+        println!("  quotes with {prices} prices a side: {check:.0} ns the check; beside it {ask:+.0} ns lowest ask, {bid:+.0} highest bid, {spread:+.0} spread");
+        writeln!(out, "| {prices} | {check:.0} | {ask:+.0} | {bid:+.0} | {spread:+.0} | {other:.0} |")
+            .expect("a string takes any text");
+    }
+    out
+}
+
 /// Gives a desk the steps that make a book.
 type Build<'a> = &'a dyn Fn(&mut dyn FnMut(Step));
 
@@ -470,6 +499,12 @@ pub fn run(plan: &Plan, folder: &Path) -> Result<(), String> {
         "\n## Is the book whole?\n\nThe check by itself, through `felavuti_check`: processor time, median of {repetitions} batches of {BATCH} (fewer where all ids have \
          one home).\n\n{}",
         checks(repetitions)
+    )
+    .expect("a string takes any text");
+    write!(
+        text,
+        "\n## Quotes\n\nThe check, and what a quote costs beside it: processor time, median of {repetitions} batches of {BATCH} each, in turn; 256 resting orders.\n\n{}",
+        quotes(repetitions)
     )
     .expect("a string takes any text");
     let growth = growth(repetitions);

@@ -46,6 +46,8 @@ compare bench [--out DIR] [--orders N] [--repetitions R]
                                      speed: bench.md, growth.csv and plots
 compare bench check [--repetitions R]
                                      speed of the check of a whole book alone
+compare bench quotes [--repetitions R]
+                                     what a quote costs beside the check
 compare bench tapes [--orders N] [--repetitions R]
                                      speed of the program felavuti on tapes
 compare plot DIR                     the plots again, from DIR/growth.csv
@@ -117,15 +119,14 @@ fn done(words: &[String]) -> Result<bool, String> {
         Some("bench") => {
             let orders = number(words, "--orders", 100_000)? as usize;
             let repetitions = number(words, "--repetitions", 7)? as usize;
-            if words.get(1).is_some_and(|word| word == "check") {
-                print!("{}", bench::checks(40 * repetitions));
-                return Ok(true);
+            let plan = bench::Plan { orders, repetitions };
+            match words.get(1).map(String::as_str) {
+                Some("check") => print!("{}", bench::checks(40 * repetitions)),
+                Some("quotes") => print!("{}", bench::quotes(40 * repetitions)),
+                Some("tapes") => print!("{}", bench::of_tapes(&plan)?),
+                _ => bench::run(&plan, &bench_folder(words)?)?,
             }
-            if words.get(1).is_some_and(|word| word == "tapes") {
-                print!("{}", bench::of_tapes(&bench::Plan { orders, repetitions })?);
-                return Ok(true);
-            }
-            bench::run(&bench::Plan { orders, repetitions }, &bench_folder(words)?).map(|()| true)
+            Ok(true)
         }
         Some("plot") => plot::run(words.get(1).ok_or("plot wants a folder")?.as_ref()).map(|()| true),
         Some("try") => script::run(words.get(1).ok_or("try wants a script")?).map(|()| true),
