@@ -2,6 +2,8 @@
 //! as a debug build makes it (a sum that would wrap panics). No Cargo.toml of lobster's is needed.
 //!
 //! LOBSTER_SRC names the folder that holds lobster's `src` (or `src` itself); else it is ../shared/docs/src beside the repository.
+//!
+//! FELAVUTI_BEFORE may name the folder of an older libffi.a: it is linked too, each of its names with `before_` in front, so that `bench before` can call both.
 use std::{env, path::PathBuf, process::Command};
 
 fn main() {
@@ -20,6 +22,32 @@ fn main() {
         build(name, checks, &source.join("lib.rs"));
     }
     println!("cargo:rustc-link-search=crate={}", env::var("OUT_DIR").unwrap());
+    println!("cargo:rustc-check-cfg=cfg(before)");
+    println!("cargo:rerun-if-env-changed=FELAVUTI_BEFORE");
+    if let Some(folder) = env::var_os("FELAVUTI_BEFORE") {
+        before(&PathBuf::from(folder).join("libffi.a"));
+    }
+}
+
+/// Links the older library under its new names.
+fn before(archive: &PathBuf) {
+    println!("cargo:rerun-if-changed={}", archive.display());
+    let listed = Command::new("nm").args(["-g", "--defined-only"]).arg(archive).output().expect("nm can be started");
+    assert!(listed.status.success(), "there is no older library at {}", archive.display());
+    let listed = String::from_utf8_lossy(&listed.stdout);
+    let names = listed.lines().filter_map(|line| line.split_whitespace().nth(2)).map(|name| format!("{name} before_{name}\n"));
+    let folder = PathBuf::from(env::var("OUT_DIR").unwrap());
+    std::fs::write(folder.join("names"), names.collect::<String>()).expect("OUT_DIR can be written to");
+    let status = Command::new("objcopy")
+        .arg(format!("--redefine-syms={}", folder.join("names").display()))
+        .arg(archive)
+        .arg(folder.join("libbefore.a"))
+        .status()
+        .expect("objcopy can be started");
+    assert!(status.success(), "the older library was not renamed");
+    println!("cargo:rustc-link-search=native={}", folder.display());
+    println!("cargo:rustc-link-lib=static=before");
+    println!("cargo:rustc-cfg=before");
 }
 
 fn build(name: &str, checks: &str, source: &PathBuf) {

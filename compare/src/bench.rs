@@ -19,7 +19,7 @@ const SEED: u64 = 1;
 const SHAPES: [&str; 8] =
     ["usual", "few-prices", "many-prices", "one-price", "sweeps", "market-heavy", "cancel-heavy", "full-book"];
 /// Calls of one kind in a row, so that the clock's own cost doesn't count.
-const BATCH: usize = 16;
+pub const BATCH: usize = 16;
 
 pub struct Plan {
     pub orders: usize,
@@ -31,7 +31,7 @@ fn hold<T>(value: T) {
     let _ = black_box(value);
 }
 
-fn median(mut times: Vec<f64>) -> f64 {
+pub fn median(mut times: Vec<f64>) -> f64 {
     times.sort_by(f64::total_cmp);
     times[times.len() / 2]
 }
@@ -56,7 +56,7 @@ fn processor_time() -> f64 {
 }
 
 /// Processor time of each of many things done by f.
-fn worked(n: usize, f: impl FnOnce()) -> f64 {
+pub fn worked(n: usize, f: impl FnOnce()) -> f64 {
     let start = processor_time();
     f();
     (processor_time() - start) / n as f64
@@ -185,7 +185,7 @@ pub fn of_tapes(plan: &Plan) -> Result<String, String> {
 }
 
 /// A desk that is timed.
-trait Timed {
+pub trait Timed {
     fn carry_out(&mut self, step: Step);
     fn min_ask(&self) -> Option<u64>;
     fn depth(&self) -> usize;
@@ -228,7 +228,7 @@ impl Timed for lobster::OrderBook {
 }
 
 /// A book with so many orders over so many prices a side; ids count from 1, quantities are 10.
-fn filled<D: Timed>(mut desk: D, resting: u64, prices: u64) -> D {
+pub fn filled<D: Timed>(mut desk: D, resting: u64, prices: u64) -> D {
     for id in 1..=resting {
         let place = (id - 1) / 2 % prices;
         match id % 2 {
@@ -307,7 +307,7 @@ fn single_calls(repetitions: usize) -> String {
 }
 
 /// A book through which many orders have gone: any ids, records, free places and entries of the search in any order.
-fn worn(resting: usize, seed: u64) -> OrderBook {
+pub fn worn(resting: usize, seed: u64) -> OrderBook {
     let mut random = Random::new(seed);
     let mut book = OrderBook::default();
     let mut ids: Vec<u64> = vec![];
@@ -329,7 +329,7 @@ fn worn(resting: usize, seed: u64) -> OrderBook {
 }
 
 /// A full book in which all ids have one home: the search for the last looks at every entry.
-fn one_home(seed: u64) -> OrderBook {
+pub fn one_home(seed: u64) -> OrderBook {
     let mut book = OrderBook::default();
     (0..ORDERS as u64).for_each(|n| book.carry_out(limit(seed + PLACES as u64 * n, Side::Ask, 10, 20_000 + n % 64)));
     book

@@ -4,6 +4,8 @@
 extern crate lobster;
 extern crate lobster_checked;
 
+#[cfg(before)]
+mod before;
 mod bench;
 mod books;
 mod check;
@@ -48,6 +50,8 @@ compare bench check [--repetitions R]
                                      speed of the check of a whole book alone
 compare bench quotes [--repetitions R]
                                      what a quote costs beside the check
+compare bench before [--repetitions R]
+                                     the check and the quotes of an older library, which FELAVUTI_BEFORE names, and of this one, in turn
 compare bench tapes [--orders N] [--repetitions R]
                                      speed of the program felavuti on tapes
 compare plot DIR                     the plots again, from DIR/growth.csv
@@ -123,6 +127,10 @@ fn done(words: &[String]) -> Result<bool, String> {
             match words.get(1).map(String::as_str) {
                 Some("check") => print!("{}", bench::checks(40 * repetitions)),
                 Some("quotes") => print!("{}", bench::quotes(40 * repetitions)),
+                #[cfg(before)]
+                Some("before") => before::run(40 * repetitions),
+                #[cfg(not(before))]
+                Some("before") => return Err("FELAVUTI_BEFORE must name the folder of an older libffi.a".into()),
                 Some("tapes") => print!("{}", bench::of_tapes(&plan)?),
                 _ => bench::run(&plan, &bench_folder(words)?)?,
             }
