@@ -1,5 +1,7 @@
 // The arena: records in the queues of their prices, tied both ways, and the free places.
 // A queue's ends stand in its level's row (price, head, tail) in lent storage; taking a record out needs no walk.
+#![tactic(auto)]
+
 ghost use Rattle.std.specs.Prelude.{◌≡◌, ◌+◌, ◌*◌, ◌<◌, ◌≤◌, length};
 ghost use Rattle.records.specs.Rows.{RecordAt, field, record_count};
 ghost use Rattle.arena.specs.Links.{tail_of, link_rs, link_lv, untied, untied_row, appended, appended_row};

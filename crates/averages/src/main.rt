@@ -1,5 +1,7 @@
 // The statistics, run: averages against bit patterns that Rust's own `as f64` and division gave; document 01's D3; and the fills of the trading day,
 // recorded by value and by loan and compared. Each line says what was found, and `equal` or `DIFFERS`.
+#![tactic(auto)]
+
 mod cases; // cases.rt: S, quantity and the bits of their average
 
 ghost use Rattle.stats.specs.Statistics.{fills_in, Follows};

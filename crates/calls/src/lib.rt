@@ -1,6 +1,8 @@
 // The public calls that make or change a book, at any size. Each demands nothing of its caller: what isn't a whole book of the given size is refused
 // with 1, and a refusal changes nothing. What may be asked of a book is in crate questions.
 // Storage is lent as numbers: records, level rows of bids and asks, places of the search; the small values go in and come back.
+#![tactic(auto)]
+
 ghost use Rattle.std.specs.Prelude.{[]};
 ghost use Rattle.rules.specs.Rules as rule;
 ghost use Rattle.models.specs.Readings.{call_of};
@@ -17,7 +19,7 @@ use stats::Statistics;
 use whole::{NOT_WHOLE, Size, is_sized, is_whole};
 
 // A fresh book's small values; or a refusal.
-#[derive(Drop)]
+#[derive(Clone, Copy)]
 pub enum Opening {
     Refused(u64),
     Made(OrderBook, Statistics),

@@ -23,7 +23,7 @@ const SHORT_PLACES: usize = 2047;
 // How many are tried.
 pub const LENGTHS: u64 = 8;
 
-#[derive(Drop)]
+#[derive(Clone, Copy)]
 struct Sizes {
     records: usize,
     bids: usize,

@@ -1,5 +1,7 @@
 // Refusal 1: calls on books that aren't whole and over storage of other lengths. Crate kept says of each refused order and depth whether it changed
 // anything; a refused fresh book is shown to leave all four slices as they were; a quote is lent nothing that it could change.
+#![tactic(auto)]
+
 mod harms; // harms.rt: single numbers of a desk changed
 mod lengths; // lengths.rt: storage of other lengths
 

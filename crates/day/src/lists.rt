@@ -27,7 +27,7 @@ const THREE_LEVELS: usize = 6;
 
 // What a list does next: a fresh book, with tracking on or off; an order with so long a buffer for its fills; tracking switched; depth with so long a
 // buffer; or nothing more.
-#[derive(Drop)]
+#[derive(Clone, Copy)]
 pub enum Next {
     Fresh(bool),
     Order(usize, OrderType),

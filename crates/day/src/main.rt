@@ -1,5 +1,7 @@
 // Document 01's trading day on the desk: T1 to T12 on one book with tracking on, then D1 to D4, each on a fresh book.
 // A line says what came in; then comes the answer, a line a fill, and where the book and the statistics stand.
+#![tactic(auto)]
+
 mod lists; // lists.rt: what is done, in order
 
 use lists::{LENGTH, LISTS, Next, ONE_FILL, TRADING_DAY, TWO_FILLS, next_of};

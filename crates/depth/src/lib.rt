@@ -1,5 +1,7 @@
 // What may be asked of a stored book: the best price of a side, its levels, whether a price is new to it, and the order found under an id.
 // Nothing is refused here: what the storage must be is in each `requires`, and the public calls see to it.
+#![tactic(auto)]
+
 ghost use Rattle.std.specs.Prelude.{◌≡◌, Bool, not, List, ◌++◌, reverse, ℕ, ◌+◌, ◌*◌, ◌<◌, ◌≤◌, length};
 ghost use Rattle.side.specs.Orders.{orders_in};
 ghost use Rattle.rules.specs.Rules as rule;
@@ -21,21 +23,21 @@ use sums::{Sum, exact, plus};
 const LEVEL: usize = 2;
 
 // The best price of a side, if it has one.
-#[derive(Drop)]
+#[derive(Clone, Copy)]
 pub enum Quote {
     Absent,
     Present(Price),
 }
 
 // Price and quantity of the order found under an id, if there is one.
-#[derive(Drop)]
+#[derive(Clone, Copy)]
 pub enum Found {
     Nothing,
     At { price: Price, qty: Quantity },
 }
 
 // That, and how many places the search looked at.
-#[derive(Drop)]
+#[derive(Clone, Copy)]
 pub struct Lookup {
     pub found: Found,
     pub count: usize,

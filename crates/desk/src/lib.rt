@@ -1,4 +1,6 @@
 // An order or a cancel on a book that is known to be whole, at any size: what it would do, whether it is refused, and only then what it does.
+#![tactic(auto)]
+
 ghost use Rattle.rules.specs.Rules as rule;
 ghost use Rattle.side.specs.Prices.{Rising};
 ghost use Rattle.ledger.specs.Stock.{stock};
@@ -21,14 +23,14 @@ use survey::{Outlook, Taker, survey};
 use whole::Size;
 
 // What an order or a cancel is answered: document 01's number of a refusal, or the event.
-#[derive(Drop)]
+#[derive(Clone, Copy)]
 pub enum Answer {
     Refused(u64),
     Done(OrderEvent),
 }
 
 // The answer, with the small values handed back.
-#[derive(Drop)]
+#[derive(Clone, Copy)]
 pub struct Executed {
     pub answer: Answer,
     pub book: OrderBook,

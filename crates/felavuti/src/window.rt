@@ -9,7 +9,7 @@ use tape::LONGEST;
 pub const MOST: u64 = 140737488355328;
 
 // The bytes from `start` up to `end` of the buffer, whose first byte has the offset `base` of the tape. They are the tape's last where no more comes.
-#[derive(Drop)]
+#[derive(Clone, Copy)]
 pub struct Window {
     pub start: usize,
     pub end: usize,

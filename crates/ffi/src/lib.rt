@@ -1,6 +1,8 @@
 // The desk of the base for C and Rust: every public call of `orderbook` as an exported function, the check of a whole book at any size, and a tape's orders
 // read and written. A slice passes as a pointer and a length; the twelve numbers of a desk, the four of an answer and the six of a slip as pointers. Each
 // returns 0, or the number of the refusal, in which case nothing lent has changed. include/felavuti.h is the header.
+#![tactic(auto)]
+
 ghost use Rattle.std.specs.Prelude.{◌≡◌, [], not, eqb, set};
 ghost use Rattle.rules.specs.Rules as rule;
 ghost use Rattle.models.specs.declared.OrderType.TheVariants.{Market, Limit};

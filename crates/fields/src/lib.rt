@@ -1,5 +1,7 @@
 // Fields of bytes: a tag of one byte, a length of two, a value; and numbers of a few bytes, high byte first. What a tag means is its user's matter.
 // The functions that read a number or write demand room of their callers; `front_at` demands nothing.
+#![tactic(auto)]
+
 ghost use Rattle.std.specs.Prelude.{◌≡◌, [], ◌∷◌, ◌+◌, ◌≤◌, ◌<◌};
 ghost use lib.ListN.{length, drop};
 ghost use Rattle.fields.specs.Bytes.{number, bytes};
@@ -16,7 +18,7 @@ const LENGTH: usize = 2;
 const BYTE: u64 = 256;
 
 // What begins the bytes from some place on: nothing, for none are left; too few for a tag and a length; or these two.
-#[derive(Drop)]
+#[derive(Clone, Copy)]
 pub enum Front {
     End,
     Stump,

@@ -1,4 +1,6 @@
 // An order that nothing speaks against is carried out on a whole book: it trades, its remainder rests or lapses, the statistics get its fills.
+#![tactic(auto)]
+
 ghost use Rattle.ledger.specs.Stock.{stock};
 ghost use Rattle.ledger.specs.Desk.{read_book};
 ghost use Rattle.fulfil.specs.Fulfils.{CanSettle, Settles, Accepted, Fulfils};
@@ -11,7 +13,7 @@ use survey::{Outlook, Taker};
 use trade::trade;
 
 // The event of an order that was carried out, with the small values handed back.
-#[derive(Drop)]
+#[derive(Clone, Copy)]
 pub struct Fulfilled {
     pub event: OrderEvent,
     pub book: OrderBook,

@@ -1,6 +1,8 @@
 // Refusals that change nothing: an order or depth told, and for a refusal whether everything is as it was. After a refused order the book, the
 // statistics with the last trade, every number of the storage and the buffer are compared with what they were; after a refused depth its buffer (the
 // rest is lent by shared reference, which can't change).
+#![tactic(auto)]
+
 use desk::Answer;
 use ledger::OrderBook;
 use models::OrderType;

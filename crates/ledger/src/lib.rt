@@ -1,5 +1,7 @@
 // The book: both sides, the records and the search by id, with contracts in the terms of the rules.
 // `records`, `bids`, `asks` and `search` are lent; `OrderBook` has the counts and the first free place.
+#![tactic(auto)]
+
 ghost use Rattle.std.specs.Prelude.{◌≡◌, [], ◌*◌, ◌<◌, ◌≤◌, length};
 ghost use Rattle.rules.specs.Rules.{stays, only};
 ghost use Rattle.models.specs.Readings.{side_of};
@@ -14,7 +16,7 @@ use records::{PRICE, load};
 
 // How many orders rest, the first free place, and how many prices each side has.
 #[repr(C)]
-#[derive(Drop)]
+#[derive(Clone, Copy)]
 pub struct OrderBook {
     pub resting: usize,
     pub free: u64,

@@ -31,7 +31,7 @@ pub const LENGTH: u64 = 14;
 
 // What a list does next: a fresh book, with tracking on or off; the orders 1 to n, each at a price of its own or all at one; an order with so long a
 // buffer; tracking switched; depth with so long a buffer; or nothing more.
-#[derive(Drop)]
+#[derive(Clone, Copy)]
 pub enum Next {
     Fresh(bool),
     Many(u64, bool),

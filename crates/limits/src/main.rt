@@ -1,4 +1,6 @@
 // The refusals 2 to 7 at their limits: what is still accepted and what is refused just beyond. Of each refusal crate kept says whether it changed anything.
+#![tactic(auto)]
+
 mod lists; // lists.rt: what is tried, in order
 
 use ledger::OrderBook;

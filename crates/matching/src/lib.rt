@@ -1,5 +1,7 @@
 // An order carried out on the makers: the second of the two passes. Fills are written and makers' quantities fall; a used-up maker holds 0 until it leaves.
 // `records` and `fills` are lent and changed; `levels` has the rows of the side that the order meets, n of them used.
+#![tactic(auto)]
+
 ghost use Rattle.std.specs.Prelude.{◌≡◌, min};
 ghost use Rattle.records.specs.Rows.{RecordAt};
 ghost use Rattle.rows.specs.Rows.{Place, fill_row};
@@ -13,14 +15,14 @@ use side::visit;
 use survey::{Taker, reaches};
 
 // The last fill's price and quantity; both are 0 where there is none.
-#[derive(Drop)]
+#[derive(Clone, Copy)]
 pub struct Last {
     pub price: Price,
     pub qty: Quantity,
 }
 
 // What is left of an order, its fills so far, and the last of them.
-#[derive(Drop)]
+#[derive(Clone, Copy)]
 pub struct Progress {
     pub left: Quantity,
     pub fills: usize,

@@ -1,20 +1,22 @@
 // Lobster's models as values, under lobster's names (lobster 0.7.0, src/models.rs): sides, orders, events, fills, levels.
 // What each means in the rule book's terms is said in specs/Readings.antt. Trades and statistics are in crate stats.
+#![tactic(auto)]
+
 ghost use Rattle.std.specs.Prelude.{◌≡◌};
 ghost use Rattle.rules.specs.Rules as rule;
 ghost use Rattle.models.specs.Readings.{side_of};
 
 // A price, a quantity and an id are three kinds of number: one can't be given in another's place.
-#[derive(Drop)]
+#[derive(Clone, Copy)]
 pub struct Id(pub u64);
 
-#[derive(Drop)]
+#[derive(Clone, Copy)]
 pub struct Quantity(pub u64);
 
-#[derive(Drop)]
+#[derive(Clone, Copy)]
 pub struct Price(pub u64);
 
-#[derive(Drop)]
+#[derive(Clone, Copy)]
 pub enum Side {
     Bid,
     Ask,
@@ -32,7 +34,7 @@ impl Side {
 }
 
 // An order to be carried out.
-#[derive(Drop)]
+#[derive(Clone, Copy)]
 pub enum OrderType {
     Market {
         id: Id,
@@ -51,7 +53,7 @@ pub enum OrderType {
 }
 
 // What came of an order. `fills` is how many fills there are; they themselves are rows of the lent buffer.
-#[derive(Drop)]
+#[derive(Clone, Copy)]
 pub enum OrderEvent {
     Unfilled {
         id: Id,
@@ -75,7 +77,7 @@ pub enum OrderEvent {
 }
 
 // A fill: taker, maker, quantity, price, the taker's side, and whether the maker was used up.
-#[derive(Drop)]
+#[derive(Clone, Copy)]
 pub struct FillMetadata {
     pub order_1: Id,
     pub order_2: Id,
@@ -86,14 +88,14 @@ pub struct FillMetadata {
 }
 
 // An occupied price with its total quantity.
-#[derive(Drop)]
+#[derive(Clone, Copy)]
 pub struct BookLevel {
     pub price: Price,
     pub qty: Quantity,
 }
 
 // Depth: the levels asked for, and how many asks and bids were written to the lent buffer, the asks first.
-#[derive(Drop)]
+#[derive(Clone, Copy)]
 pub struct BookDepth {
     pub levels: usize,
     pub asks: usize,

@@ -1,5 +1,7 @@
 // How the small values and the answers pass as numbers to C and Rust, by value: the twelve numbers of a desk, the four of an answer. `outcome` says what an
 // exported call returns and leaves, by its answer; the exports (crate ffi) lend the storage and call.
+#![tactic(auto)]
+
 ghost use Rattle.std.specs.Prelude.{◌≡◌};
 ghost use Rattle.numbers.specs.Numbers.{book_in, trade_in, last_in, statistics_in, numbers_of, yes};
 ghost use Rattle.numbers.specs.Numbers.{event_as_numbers, quote_as_numbers, depth_as_numbers, look_as_numbers};

@@ -11,20 +11,20 @@ use questions::{Deep, Got, Quoted};
 // What an accepted call returns.
 pub const ACCEPTED: u64 = 0;
 
-#[derive(Drop)]
+#[derive(Clone, Copy)]
 pub struct Outcome {
     pub code: u64,
     pub desk: [u64; DESK],
     pub answer: [u64; ANSWER],
 }
 
-#[derive(Drop)]
+#[derive(Clone, Copy)]
 pub struct Reply {
     pub code: u64,
     pub answer: [u64; ANSWER],
 }
 
-#[derive(Drop)]
+#[derive(Clone, Copy)]
 pub struct Start {
     pub code: u64,
     pub desk: [u64; DESK],

@@ -1,4 +1,6 @@
 // What is decided of an order from its outlook: the lowest refusal that applies, and the event.
+#![tactic(auto)]
+
 ghost use Rattle.std.specs.Prelude.{◌≡◌, ◌≤◌};
 ghost use Rattle.models.specs.Readings.{event_of};
 ghost use Rattle.order.specs.Decided.{refusal_number, filled, remains, totals_by, decided, event_by};

@@ -1,6 +1,8 @@
 // The desk of the base: lobster's order book over storage for 1,024 resting orders and 128 prices a side, as public calls that demand nothing of the caller.
 // Each is the call of the same name in `calls` or `questions`, at this one size; a market and a limit order are `execute` of it.
 // Storage is lent: RECORDS numbers for the orders, LEVELS for the prices of each side, PLACES for the search.
+#![tactic(auto)]
+
 ghost use Rattle.std.specs.Prelude.{[]};
 ghost use Rattle.rules.specs.Rules as rule;
 ghost use Rattle.models.specs.declared.OrderType.TheVariants.{Market, Limit};

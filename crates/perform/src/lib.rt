@@ -1,5 +1,7 @@
 // An order or a cancel on a book that is known to be whole, at any size: what a caller who alone holds the storage needs, and what the public call does
 // once it has looked.
+#![tactic(auto)]
+
 ghost use Rattle.std.specs.Prelude.{◌≡◌, ℕ};
 ghost use Rattle.models.specs.Readings.{call_of};
 ghost use Rattle.rows.specs.Rows.{fill_row, places};
@@ -16,7 +18,7 @@ use survey::Taker;
 use whole::Size;
 
 // What an order asks of the desk: to be carried out, or that another is taken back.
-#[derive(Drop)]
+#[derive(Clone, Copy)]
 enum Request {
     Enter(Taker),
     Withdraw(Id),

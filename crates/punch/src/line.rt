@@ -9,7 +9,7 @@ use tape::{LIMIT, MARKET};
 pub const LONGEST_LINE: usize = 4096;
 
 // The last word that was read, its value, and how the line stands with it.
-#[derive(Drop)]
+#[derive(Clone, Copy)]
 pub struct Along {
     pub start: usize,
     pub end: usize,
@@ -18,7 +18,7 @@ pub struct Along {
 }
 
 // The order counts where all is well.
-#[derive(Drop)]
+#[derive(Clone, Copy)]
 pub struct Line {
     pub order: OrderType,
     pub along: Along,

@@ -19,7 +19,7 @@ const TOO_LONG: usize = LONGEST_LINE + 2;
 
 // From `start` up to `end` of its buffer the text is read and not yet punched; up to `to` of its buffer the tape is punched and not yet written. `line` is the
 // number of the line at `start`. The text has ended, or the run is over.
-#[derive(Drop)]
+#[derive(Clone, Copy)]
 pub struct Run {
     pub start: usize,
     pub end: usize,

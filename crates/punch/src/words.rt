@@ -10,7 +10,7 @@ const BID: u8 = 0;
 const TEN: u64 = 10;
 
 // How a line stands: all is well so far, it says nothing, or what is wrong.
-#[derive(Drop)]
+#[derive(Clone, Copy)]
 pub enum State {
     Well,
     Blank,
@@ -24,7 +24,7 @@ pub enum State {
 }
 
 // What a word should be. A kind and a side are their numbers on the tape.
-#[derive(Drop)]
+#[derive(Clone, Copy)]
 pub enum What {
     Kind,
     Side,
@@ -33,7 +33,7 @@ pub enum What {
 }
 
 // What a word is. The value counts where all is well.
-#[derive(Drop)]
+#[derive(Clone, Copy)]
 pub struct Word {
     pub value: u64,
     pub state: State,

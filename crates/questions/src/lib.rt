@@ -1,5 +1,7 @@
 // What may be asked of a book at any size: quotes, depth, an order by its id. Each demands nothing of its caller: what isn't a whole book of the given
 // size is refused with 1. Nothing in the book changes.
+#![tactic(auto)]
+
 ghost use Rattle.std.specs.Prelude.{◌≡◌};
 ghost use Rattle.rules.specs.Rules as rule;
 ghost use Rattle.ledger.specs.Stock.{stock};
@@ -19,21 +21,21 @@ pub const LEVELS_OUTNUMBER_PLACES: u64 = 6;
 pub const TOTAL_TOO_LARGE: u64 = 7;
 
 // A quote or the spread, present or absent; or a refusal.
-#[derive(Drop)]
+#[derive(Clone, Copy)]
 pub enum Quoted {
     Refused(u64),
     Told(Quote),
 }
 
 // The levels asked for, and how many asks and bids were written; or a refusal.
-#[derive(Drop)]
+#[derive(Clone, Copy)]
 pub enum Deep {
     Refused(u64),
     Told(BookDepth),
 }
 
 // The order found under an id, if there is one, and how many places the search looked at; or a refusal.
-#[derive(Drop)]
+#[derive(Clone, Copy)]
 pub enum Got {
     Refused(u64),
     Told(Lookup),

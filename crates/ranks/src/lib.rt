@@ -1,5 +1,7 @@
 // The queues and the sides of a stored book, on any slices: how many orders they have where they are right, how many of these the search finds, and whether
 // bids and asks lie apart. No marks: a queue's walk ends where it has counted as many orders as there may be. Each order's record is read once.
+#![tactic(auto)]
+
 ghost use Rattle.std.specs.Prelude.{◌≡◌, ◌*◌, ◌<◌, ◌≤◌, length};
 ghost use Rattle.records.specs.Rows.{record_count};
 ghost use Rattle.search.specs.Seek.{Decides, Masks};
@@ -10,7 +12,7 @@ use records::{NEXT, PREV, PRICE, QUANTITY, WIDTH, load};
 use table::is_found;
 
 // How many orders there are, and how many of them the search finds.
-#[derive(Drop)]
+#[derive(Clone, Copy)]
 pub struct Tally {
     pub orders: usize,
     pub found: usize,

@@ -1,4 +1,6 @@
 // Reads the order at a place of a tape, with nothing demanded of the caller: any bytes, any place.
+#![tactic(auto)]
+
 ghost use Rattle.std.specs.Prelude.{◌≡◌, ◌+◌, ◌≤◌, ◌<◌, length, drop};
 ghost use Rattle.fields.specs.Fields.{front_of};
 ghost use Rattle.fields.specs.declared.Front.TheVariants.{Header};

@@ -2,7 +2,6 @@
 use Prim.Native.Nat.{ℕ, ◌*◌, ◌+◌, ◌-◌, ◌/◌, ◌<◌, ◌≤◌}
 use mathlib.Core.List.{List}
 use mathlib.Core.Logic.{◌≢◌}
-use mathlib.Core.Option.{some}
 use mathlib.Core.Path.{ap, ◌≡◌}
 use native.Mathlib.Omega.{arith}
 use lib.ListN.{length, length-set}

@@ -1,5 +1,7 @@
 // The records of a book: rows of five numbers in lent storage, read and written here and nowhere else.
 // A record is named by its code, its row + 1; code 0 is none.
+#![tactic(auto)]
+
 ghost use Rattle.std.specs.Prelude.{◌≡◌, ℕ, ◌*◌, ◌<◌, ◌≤◌, length};
 ghost use Rattle.records.specs.Rows.{RecordAt, field, put};
 

@@ -1,5 +1,7 @@
 // The desk along a tape of which only a part is at hand: its fields one after another, as far as they and the room for their text go.
 // Who refills the part and empties the buffer goes on from there; that the refills don't matter is proved (proofs/Whole.antt).
+#![tactic(auto)]
+
 ghost use Rattle.std.specs.Prelude.{◌+◌, ◌*◌, ◌≤◌, ◌<◌, length};
 ghost use Rattle.ledger.specs.Stock.{stock};
 ghost use Rattle.whole.specs.Whole.{size_of};

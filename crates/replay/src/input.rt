@@ -9,14 +9,14 @@ const NUMBER: usize = 8;
 const ORDER: usize = 40;
 
 // A step, or no more of them.
-#[derive(Drop)]
+#[derive(Clone, Copy)]
 pub enum Reading {
     Came(Step),
     Ended,
 }
 
 // What came of reading so many bytes: all of them; none, at the end; only some; or an error.
-#[derive(Drop)]
+#[derive(Clone, Copy)]
 enum Bytes {
     All,
     Ended,

@@ -4,6 +4,8 @@
 // quantity and bits of the average.
 // Numbers that mean no order, an order cut off, or a read that fails end the run with a line on standard error: nothing is dropped unsaid. A program
 // here has no exit status to give.
+#![tactic(auto)]
+
 mod input; // input.rt: an order out of standard input
 
 use input::{Reading, next_step};

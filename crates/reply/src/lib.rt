@@ -1,4 +1,6 @@
 // What the desk answers to an order, as text in a lent buffer: the event's line and a line a fill, or the refusal's line.
+#![tactic(auto)]
+
 ghost use Rattle.std.specs.Prelude.{◌≡◌, ◌+◌, ◌*◌, ◌≤◌, min, length};
 ghost use Rattle.overlay.specs.Over.{Put};
 ghost use Rattle.rows.specs.Rows.{fill_row, places};

@@ -1,4 +1,6 @@
 // Fills and levels as rows of numbers in a lent slice.
+#![tactic(auto)]
+
 ghost use Rattle.std.specs.Prelude.{◌≡◌, [], ◌∷◌, ◌+◌};
 ghost use Rattle.models.specs.Readings.{side_of, fill_of, level_of};
 ghost use Rattle.rules.specs.Whole.{one};

@@ -400,8 +400,8 @@ module _ (N : ℕ → Bool) where
     inv start =
         record {
           same = refl;
-          unmarked = λ s. elim s [ bid ↦ empty | ask ↦ empty ];
-          names = λ s. elim s [ bid ↦ empty | ask ↦ empty ];
+          unmarked = λ s. elim s as (λ k. All Unmarked (own k (end {A = Bool} z []).book)) [ bid ↦ empty | ask ↦ empty ];
+          names = λ s. elim s as (λ k. All (Known N) (own k (end {A = Bool} z []).book)) [ bid ↦ empty | ask ↦ empty ];
         }
     inv (shared {b = b} {h = h} {k = k} i c n l) = go b (inv i)
       where

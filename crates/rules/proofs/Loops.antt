@@ -65,7 +65,7 @@ module _ {A : Type 0} where
         keeping_append m (m.quantity - given t w m) o.left (matching t o.rest k).left,
       )
 
-  pub place_at : {l : List (Order A)} (s : Side) (o : Order A) (k : List (Order A)) → All (λ m. as_good s m.price o.price ≡ true) l
+  pub place_at : (s : Side) (o : Order A) {l : List (Order A)} (k : List (Order A)) → All (λ m. as_good s m.price o.price ≡ true) l
       → All (λ m. as_good s m.price o.price ≡ false) k → place s o (l ++ k) ≡ l ++ o ∷ k
   unfolding place
   place_at s o k empty b = place_front s o k b

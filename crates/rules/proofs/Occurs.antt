@@ -3,7 +3,7 @@ use Prim.Native.Nat.{ℕ, zero, suc}
 use mathlib.Core.Path.{◌≡◌, refl}
 use mathlib.Core.Bool.{Bool, true, false}
 use mathlib.Core.List.Memᴰ
-use mathlib.Core.List.{List, [], ◌∷◌}
+use mathlib.Core.List.{[], ◌∷◌}
 use Rattle.rules.specs.Rules.{bid, ask, market, limit, Taker, Order, order, partially_filled, filled, done, hall}
 use Rattle.rules.specs.Rules.{keep, matching, place, only, levels, occupied, total, worth, last_price, last_quantity, stats_after, too_large, outcome, checks, first_of, refusal, carried, perform, end}
 use Rattle.rules.specs.Late.{Histories, start, shared, enters_x, extra, answer_to, marked, plain}

@@ -6,7 +6,7 @@ use mathlib.Core.List.{List, [], ◌∷◌, map}
 use lib.ListN.{length, take}
 use Rattle.rules.specs.Rules.{own, Call, order, cancel, tracking, Answer, done, switched, Result, Size, perform, end}
 use Rattle.rules.specs.Retag.{re_order, re_fill, re_call, re_answer, re_desk, re_result}
-use Rattle.rules.specs.Late.{plain, Names, refuses, fills_of, rests, up_to, Alike, Histories, shared, answer_to, unmark, turn, plainly, Alone}
+use Rattle.rules.specs.Late.{plain, Names, refuses, fills_of, rests, up_to, Alike, Histories, shared, answer_to, unmark, plainly, Alone}
 use Rattle.rules.proofs.Retag.{own_re, perform_re, end_re}
 use Rattle.rules.proofs.Latecomers.{demand3}
 

@@ -134,7 +134,7 @@ module _ (N : ℕ → Bool) where
   front_turn (here x n a) = rw (n, x)
   front_turn (ahead u n f) = rw (n, u, front_turn f)
 
-  pub known_place : {l : List (Order Bool)} (s : Side) (o : Order Bool) → Known o → Sorted s l → keep known (place s o l) ≡ place s o (keep known l)
+  pub known_place : (s : Side) (o : Order Bool) {l : List (Order Bool)} → Known o → Sorted s l → keep known (place s o l) ≡ place s o (keep known l)
   unfolding place keep
   known_place s o k sorted[] = rw k
   known_place s o k (sorted∷ {m = m} {l = l} a b) = go (as_good s m.price o.price) (N m.id) refl refl (known_place s o k b)

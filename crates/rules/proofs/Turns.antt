@@ -49,7 +49,7 @@ module _ {A : Type 0} where
   Reads t w l o = Taken t w l o.fills o.left o.rest
 
   -- matching takes the makers in their turn
-  pub taken : {l : List (Order A)} (t : Taker A) (w : ℕ) → Sorted (opposite t.side) l → Positive l
+  pub taken : (t : Taker A) (w : ℕ) {l : List (Order A)} → Sorted (opposite t.side) l → Positive l
       → Taken t w l (matching t w l).fills (matching t w l).left (matching t w l).rest
   unfolding matching Reads
   taken t w sorted[] p = nobody

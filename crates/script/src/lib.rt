@@ -1,4 +1,6 @@
 // What the programs do in common: a desk with its storage as one value, a step as five numbers, and a step carried out with its answer told.
+#![tactic(auto)]
+
 ghost use Rattle.std.specs.Prelude.{◌≡◌, ◌≤◌};
 ghost use Rattle.models.specs.declared.OrderType.TheVariants.{Market, Limit, Cancel};
 ghost use Rattle.models.specs.declared.Side.TheVariants.{Bid, Ask};
@@ -33,7 +35,7 @@ pub const SHOWN: usize = 512;
 pub const MARK: u64 = 7;
 
 // A desk: its storage and its small values.
-#[derive(Drop)]
+#[derive(Clone, Copy)]
 pub struct OwnDesk {
     pub records: [u64; RECORDS],
     pub bids: [u64; LEVELS],
@@ -43,7 +45,7 @@ pub struct OwnDesk {
     pub statistics: Statistics,
 }
 
-#[derive(Drop)]
+#[derive(Clone, Copy)]
 pub struct Quotes {
     pub ask: Quoted,
     pub bid: Quoted,
@@ -51,7 +53,7 @@ pub struct Quotes {
 }
 
 // What an order came to: the answer, the desk after it, and the whole buffer of which a part was lent for fills.
-#[derive(Drop)]
+#[derive(Clone, Copy)]
 pub struct Done {
     pub answer: Answer,
     pub desk: OwnDesk,
@@ -59,14 +61,14 @@ pub struct Done {
 }
 
 // What depth came to, and the whole buffer of which a part was lent for levels.
-#[derive(Drop)]
+#[derive(Clone, Copy)]
 pub struct Shown {
     pub deep: Deep,
     pub levels: [u64; SHOWN],
 }
 
 // An order or a cancel; tracking switched on or off; or numbers that mean neither.
-#[derive(Drop)]
+#[derive(Clone, Copy)]
 pub enum Step {
     Order(OrderType),
     Tracking(bool),
@@ -153,7 +155,7 @@ pub fn step_of(kind: u64, side: u64, id: u64, qty: u64, price: u64) -> Step {
 }
 
 // A fresh book's small values. Storage of the right lengths is never refused; otherwise a line says so, and the book is one that isn't whole.
-#[derive(Drop)]
+#[derive(Clone, Copy)]
 struct Small {
     book: OrderBook,
     statistics: Statistics,

@@ -1,4 +1,6 @@
 // The search by id: a ring of lent places, walked on from an id's home. It keeps codes of records and reads their ids off the records.
+#![tactic(auto)]
+
 ghost use Rattle.std.specs.Prelude.{◌≡◌, true, ◌+◌, ◌<◌, length, replicate};
 ghost use Rattle.search.specs.Seek.{inside, home, Masks, next, dist, stops, sought, entering, removing, forgetting, Pointing};
 ghost use Rattle.records.specs.Rows.{RecordAt};
@@ -9,7 +11,7 @@ use records::{ID, WIDTH, load};
 const NO_MASK: u64 = 0;
 
 // Where a search ended, the entry it found there (0 for none), and how many places it looked at.
-#[derive(Drop)]
+#[derive(Clone, Copy)]
 pub struct Probe {
     pub place: usize,
     pub entry: u64,

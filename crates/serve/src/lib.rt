@@ -1,5 +1,7 @@
 // The desk at one field of a tape: it is read, its order carried out, and what the desk says of it put into a lent buffer as text.
 // The book must be whole: whoever alone holds the storage has it so from the start, and every step keeps it.
+#![tactic(auto)]
+
 ghost use Rattle.std.specs.Prelude.{◌+◌, ◌*◌, ◌≤◌, ◌<◌, length};
 ghost use Rattle.ledger.specs.Stock.{stock};
 ghost use Rattle.whole.specs.Whole.{size_of};
@@ -16,7 +18,7 @@ use text::put_stopped;
 use whole::Size;
 
 // The tape goes on, a bad field stopped it, or it ended.
-#[derive(Drop)]
+#[derive(Clone, Copy)]
 pub enum State {
     Going,
     Stopped,
@@ -24,7 +26,7 @@ pub enum State {
 }
 
 // The state, the place of the next field, the place behind the text, and the desk's small values.
-#[derive(Drop)]
+#[derive(Clone, Copy)]
 pub struct Turn {
     pub state: State,
     pub next: usize,

@@ -1,4 +1,6 @@
 // One side of a book: ascending prices, each with its queue. The doors here change one side, and hold for whatever the other side is.
+#![tactic(auto)]
+
 ghost use Rattle.std.specs.Prelude.{◌≡◌, ◌≢◌, ◌+◌, ◌*◌, ◌-◌, ◌<◌, ◌≤◌, length};
 ghost use Rattle.arena.specs.Links.{price_of};
 ghost use Rattle.models.specs.Readings.{side_of};
@@ -50,7 +52,7 @@ pub fn shut_row(levels: &mut [u64], n: usize, k: usize)
 }
 
 // The rows among which a price is sought: those below `lo` are lower, those from `hi` on are not.
-#[derive(Drop)]
+#[derive(Clone, Copy)]
 pub struct Span {
     pub lo: usize,
     pub hi: usize,
@@ -98,7 +100,7 @@ pub fn ready(levels: &mut [u64], n: usize, k: usize, price: Price) -> usize
 }
 
 // What a door leaves: the side's number of rows, and the first free place.
-#[derive(Drop)]
+#[derive(Clone, Copy)]
 pub struct Ends {
     pub rows: usize,
     pub free: u64,

@@ -1,5 +1,7 @@
 // An order as six numbers, a slip, in which it passes to C and Rust (specs/Slips.antt): read at a place of a tape, and written there. Nothing is demanded of
 // the caller. After a refusal the slip and the bytes are as they were.
+#![tactic(auto)]
+
 ghost use Rattle.std.specs.Prelude.{◌≡◌};
 ghost use Rattle.tape.specs.Orders.{side_by, number_of_side};
 ghost use Rattle.slips.specs.Slips.{slip_for, order_of, no_kind, no_side, read_by, written_by, bytes_by};
@@ -39,7 +41,7 @@ const ASK: u64 = tape::ASK as u64;
 // What a call that isn't refused answers.
 const DONE: u64 = 0;
 
-#[derive(Drop)]
+#[derive(Clone, Copy)]
 pub struct Outcome {
     pub code: u64,
     pub slip: [u64; SLIP],

@@ -1,4 +1,6 @@
 // Lobster's trade and statistics as values: switched, asked, and after fills (lobster 0.7.0, src/models.rs, and what src/orderbook.rs keeps).
+#![tactic(auto)]
+
 ghost use Rattle.std.specs.Prelude.{◌≡◌, ◌*◌, ◌<◌, ◌≤◌, min, [], length};
 ghost use Rattle.rules.specs.Rules as rule;
 ghost use Rattle.stats.specs.Statistics.{statistics_of, rule_trade, totals_of, with_fill, trade_for, over_of, VolumeFits, fills_in, Follows};
@@ -10,7 +12,7 @@ use sums::Sum;
 pub mod bits; // bits.rt: an average as its bit pattern
 pub mod door; // door.rt: the statistics by loan
 
-#[derive(Drop)]
+#[derive(Clone, Copy)]
 pub struct Trade {
     pub total_qty: Quantity,
     pub avg_price: f64,
@@ -19,13 +21,13 @@ pub struct Trade {
     pub last_qty: Quantity,
 }
 
-#[derive(Drop)]
+#[derive(Clone, Copy)]
 pub enum LastTrade {
     Absent,
     Present(Trade),
 }
 
-#[derive(Drop)]
+#[derive(Clone, Copy)]
 pub struct Statistics {
     pub tracking: bool,
     pub volume: Quantity,
@@ -33,7 +35,7 @@ pub struct Statistics {
 }
 
 // What the statistics make of a list of fills: 0 with the new ones, or the number of the refusal with the old ones.
-#[derive(Drop)]
+#[derive(Clone, Copy)]
 pub struct Recorded {
     pub code: u64,
     pub statistics: Statistics,
@@ -45,7 +47,7 @@ const ACCEPTED: u64 = 0;
 const TOO_LARGE: u64 = 3;
 
 // S and the quantity of some fills.
-#[derive(Drop)]
+#[derive(Clone, Copy)]
 pub struct Totals {
     pub worth: Sum,
     pub quantity: Sum,

@@ -1,5 +1,7 @@
 // What the programs that read a stream have in common: its source, named by the first argument, what is at hand of it in a lent buffer, and what goes out.
 // Whatever fails is said on standard error, with its name.
+#![tactic(auto)]
+
 ghost use Rattle.std.specs.Prelude.{◌≡◌, true, ◌+◌, ◌-◌, ◌≤◌, length, take, drop};
 ghost use Rattle.std.proofs.Math.Seq.{paste};
 ghost use Rattle.io.specs.Counts.{IsPrefixLen};
@@ -7,14 +9,14 @@ ghost use Rattle.io.specs.Counts.{IsPrefixLen};
 use libc::{STDIN_FILENO, STDOUT_FILENO};
 
 // Where the stream comes from, and the length of its name. The descriptor is below 0 where it can't be opened.
-#[derive(Drop)]
+#[derive(Clone, Copy)]
 pub struct Source {
     pub fd: i32,
     pub name: usize,
 }
 
 // What a read brought: so many bytes; the stream has ended where there are none, unless the read failed.
-#[derive(Drop)]
+#[derive(Clone, Copy)]
 pub struct Came {
     pub bytes: usize,
     pub ended: bool,

@@ -1,4 +1,6 @@
 // Exact products and sums of 64-bit numbers without a wider number.
+#![tactic(auto)]
+
 ghost use Rattle.std.specs.Prelude.{◌≡◌, ◌*◌};
 ghost use Rattle.sums.specs.Sums.{capped, plus_of};
 
@@ -10,7 +12,7 @@ const MOST: u64 = 18446744073709551615;
 const HALF_WIDE: u64 = 4294967296;
 
 // A sum that may have passed 2^64 - 1; then `over` says so, and `sum` is 0.
-#[derive(Drop)]
+#[derive(Clone, Copy)]
 pub struct Sum {
     pub over: bool,
     pub sum: u64,

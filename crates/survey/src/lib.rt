@@ -1,5 +1,7 @@
 // What an order would take from the makers, with nothing changed: the first of the two passes, from which the refusals are decided.
 // `records` and `levels` are lent; `levels` has the rows of the side that the order meets, n of them used.
+#![tactic(auto)]
+
 ghost use Rattle.std.specs.Prelude.{◌≡◌, Bool, ℕ, ◌<◌, ◌≤◌};
 ghost use Rattle.side.specs.Orders.{orders_in};
 ghost use Rattle.rules.specs.Rules.{outcome};
@@ -15,7 +17,7 @@ use side::visit;
 use sums::{Sum, plus, product};
 
 // An order that comes in: it meets any price, or those as good as its limit.
-#[derive(Drop)]
+#[derive(Clone, Copy)]
 pub struct Taker {
     pub id: Id,
     pub side: Side,
@@ -25,7 +27,7 @@ pub struct Taker {
 }
 
 // What an order would do: what is left of it, how many fills it has, how many makers it uses up, and the sum of price times quantity.
-#[derive(Drop)]
+#[derive(Clone, Copy)]
 pub struct Outlook {
     pub left: Quantity,
     pub fills: usize,

@@ -1,4 +1,6 @@
 // The search of a stored book by counting: which records it finds, and how many of its places are taken. On any slices.
+#![tactic(auto)]
+
 ghost use Rattle.std.specs.Prelude.{◌≡◌, ◌<◌, eqb, length};
 ghost use Rattle.records.specs.Rows.{RecordAt, field};
 ghost use Rattle.search.specs.Seek.{Masks, entry_for};

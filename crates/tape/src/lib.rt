@@ -1,5 +1,7 @@
 // Orders on a tape: each is a field whose tag says the kind. What a tape is and says is defined here (specs/Orders.antt, specs/Tape.antt), and what holds
 // of whole tapes is proved; crate reader reads an order at a place, crate writer writes one.
+#![tactic(auto)]
+
 ghost use Rattle.std.specs.Prelude.{◌≡◌};
 ghost use Rattle.tape.specs.Orders.{length_of};
 
@@ -33,7 +35,7 @@ pub const ASK: u8 = 1;
 pub const LONGEST: usize = 28;
 
 // An order with the place behind it; a refusal with the place of its field; or the end.
-#[derive(Drop)]
+#[derive(Clone, Copy)]
 pub enum Read {
     Order(OrderType, usize),
     Refused(u64, usize),
@@ -41,7 +43,7 @@ pub enum Read {
 }
 
 // The place behind an order, or a refusal.
-#[derive(Drop)]
+#[derive(Clone, Copy)]
 pub enum Written {
     Next(usize),
     Refused(u64),

@@ -1,5 +1,7 @@
 // What the programs print in common, said once: texts and numbers, an order, what the desk answers to it, fills, quotes. Everything goes to standard
 // output, and any value can be told.
+#![tactic(auto)]
+
 use depth::Quote;
 use desk::Answer;
 use libc::STDOUT_FILENO;

@@ -1,5 +1,7 @@
 // Lines of text into a lent buffer, exactly: each function puts its bytes at a place and answers the place behind them. Room is the caller's matter: LINE
 // bytes are enough for any line.
+#![tactic(auto)]
+
 ghost use Rattle.std.specs.Prelude.{◌≡◌, ◌++◌, ◌+◌, ◌≤◌, ◌<◌, length};
 ghost use Rattle.overlay.specs.Over.{Put};
 ghost use Rattle.models.specs.Readings.{event_of, fill_of};

@@ -1,4 +1,6 @@
 // An order trades: it is carried out on the makers, and those that it uses up leave. What is left of the order is a matter of the caller.
+#![tactic(auto)]
+
 ghost use Rattle.std.specs.Prelude.{◌≤◌, length};
 ghost use Rattle.rules.specs.Rules.{own};
 ghost use Rattle.models.specs.Readings.{side_of};
@@ -12,7 +14,7 @@ use models::Side;
 use survey::Taker;
 
 // The book then, and the last fill's price and quantity (0 where there is none).
-#[derive(Drop)]
+#[derive(Clone, Copy)]
 pub struct Traded {
     pub book: OrderBook,
     pub last: Last,

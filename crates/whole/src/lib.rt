@@ -2,6 +2,8 @@
 // No marks: a chain that ends has no repeats, queues of different prices share nothing, a free record has quantity 0, and the lengths add up. The search
 // finds only resting orders, each at a place of its own, exactly where as many of them are found as places are taken.
 // Crate ranks looks at the queues and the sides, crate table at the search.
+#![tactic(auto)]
+
 ghost use Rattle.std.specs.Prelude.{◌≡◌, ◌*◌, ◌≤◌};
 ghost use Rattle.search.specs.Seek.{Decides};
 ghost use Rattle.ledger.specs.Stock.{stock};
@@ -16,7 +18,7 @@ use search::mask_of;
 use table::taken;
 
 // The size of a hall: how many orders may rest, and how many prices a side may have.
-#[derive(Drop)]
+#[derive(Clone, Copy)]
 pub struct Size {
     pub orders: usize,
     pub prices: usize,

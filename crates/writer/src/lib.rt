@@ -1,4 +1,6 @@
 // Writes an order at a place of a lent tape, with nothing demanded of the caller: where room is short it is refused, and nothing changes.
+#![tactic(auto)]
+
 ghost use Rattle.std.specs.Prelude.{◌≡◌, ◌+◌, ◌≤◌, length};
 ghost use Rattle.overlay.specs.Over.{Put};
 ghost use Rattle.tape.specs.Orders.{length_of, number_of_side, tag_for, wish_of, value_of, written_at, written_to};

@@ -2,11 +2,7 @@
 use mathlib.Core.Path.{sym}
 use native.Mathlib.Omega.{arith}
 use Rattle.sums.proofs.Capped.{capped_small}
-use Rattle.sums.proofs.exact.Statement.{statement}
-use Rattle.sums.proofs.exact.Tie as tie
+use Rattle.sums.proofs.exact.Goals as goal
 
-returns : tie.Need-returns
+pub returns : goal.returns
 returns c = sym (capped_small _ (omega arith))
-
-pub exact-spec : {M : Type 1} → statement M
-exact-spec = tie.close (tie.spec returns)

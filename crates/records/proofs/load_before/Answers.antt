@@ -6,27 +6,10 @@ use native.Mathlib.Omega.{arith}
 use lib.ListN.{get_or}
 use Rattle.records.specs.Rows.{field}
 use borrow.Author.Rules.{rules}
-use Rattle.records.proofs.load_before.Statement.{statement}
-use Rattle.records.proofs.load_before.Tie as tie
+use Rattle.records.proofs.load_before.Goals as goal
 
 before_end : (rs : List ℕ) (f e c : ℕ) → 1 ≤ c → e ≡ c * 5 → get_or rs (e - 5 + f) 0 ≡ field rs f c
 before_end rs f e c h g = ap (λ (k : ℕ). get_or rs k 0) (let q : e - 5 + f ≡ (c - 1) * 5 + f = omega arith in q)
 
-sub-result : tie.Need-overflow-sub-result
-sub-result c = search rules
-
-add-result : tie.Need-overflow-add-result
-add-result c = search rules
-
-mul-result : tie.Need-overflow-mul-result
-mul-result c = search rules
-
-shared-slice-read-result : tie.Need-shared-slice-read-result
-shared-slice-read-result c = search rules
-
-returns : tie.Need-returns
+pub returns : goal.returns
 returns c = search (rules, before_end)
-
-pub load-before-spec : {M : Type 1} → statement M
-load-before-spec =
-    tie.close (tie.spec sub-result add-result mul-result shared-slice-read-result returns)
