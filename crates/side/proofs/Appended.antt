@@ -19,7 +19,6 @@ use Rattle.arena.proofs.Links.{appended_field, link_some, tie_field, tie_lv_leng
 use Rattle.arena.proofs.Ring.{append_run, before_in}
 use Rattle.arena.proofs.Times.{one_other, one_self, times_snoc}
 use Rattle.side.specs.Levels.{Ladder, LevelStored, Lvl, empty, nth, ups}
-use Rattle.side.specs.Prices.{new}
 use Rattle.side.proofs.Levels.{Agree, Nodes, level_frame, node_row, nth_times, two_times, with, with_price}
 
 pub appended_agree : (rs : List ℕ) (t c x : ℕ) → 1 ≤ x → 1 ≤ c → x ≢ c → (1 ≤ t → x ≢ t) → Agree rs (appended rs t c) x
