@@ -6,7 +6,6 @@ use native.Mathlib.Omega.{arith}
 use lib.ListN.{length}
 use Rattle.rules.specs.Rules.{Book, Side, ask, bid}
 use Rattle.records.specs.Rows.{record_count}
-use Rattle.search.specs.Seek.{at}
 use Rattle.arena.specs.Free.{Chain}
 use Rattle.arena.specs.Times.{times}
 use Rattle.arena.proofs.Times.{times_length}
