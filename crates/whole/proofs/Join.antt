@@ -8,8 +8,8 @@ use mathlib.Core.Path.{ap, sym, ◌∙◌, ◌≡◌}
 use native.Mathlib.Omega.{arith}
 use lib.ListN.{length, length-append}
 use borrow.Author.Tests.{lt-leb}
-use Rattle.rules.specs.Rules.{Book, Size, ask, bid, limit, own, within}
-use Rattle.rules.specs.Whole.{All, Whole, WholeBook, empty, seen, sorted[]}
+use Rattle.rules.specs.Rules.{Book, Size, ask, bid, levels, limit, opposite, own, within}
+use Rattle.rules.specs.Whole.{All, Apart, Positive, Sorted, Whole, WholeBook, empty, seen, sorted[]}
 use Rattle.records.specs.Rows.{field, record_count}
 use Rattle.search.specs.Seek.{at, entry_for}
 use Rattle.search.proofs.Walks.{held, own as own_place, sound}
@@ -99,11 +99,11 @@ module _ {z : Size} {b : OrderBook} {rs bd ak se : List ℕ} (w : WholeStorage z
       let aw = levels_in rs ak b.asks in
       record {
         sorted = desk_sorted whole_desk;
-        positive = λ s. elim s [
+        positive = λ s. elim s as (λ k. Positive (own k (stored_book rs bd ak se b.bids b.asks))) [
           | bid ↦ all_of rs (found se rs) (λ m. 1 ≤ m.quantity) (codes bid bw) bid_some
           | ask ↦ all_of rs (found se rs) (λ m. 1 ≤ m.quantity) (codes ask aw) ask_some
         ];
-        apart = λ s. elim s [
+        apart = λ s. elim s as (λ k. Apart k (own k (stored_book rs bd ak se b.bids b.asks)) (own (opposite k) (stored_book rs bd ak se b.bids b.asks))) [
           | bid ↦ all_of rs (found se rs) (λ m. All (λ n. within bid (limit m.price) n.price ≡ false) (own ask (stored_book rs bd ak se b.bids b.asks))) (codes bid bw)
               (λ x i. all_of rs (found se rs) (λ n. within bid (limit (field rs 2 x)) n.price ≡ false) (codes ask aw)
               (λ y j. lt-leb (field rs 2 y) (field rs 2 x) (whole_apart x y (omega (arith, codes_times bid x bw)) j)))
@@ -119,7 +119,7 @@ module _ {z : Size} {b : OrderBook} {rs bd ak se : List ℕ} (w : WholeStorage z
     once = desk_once whole_desk;
     fits = record {
       orders = omega (arith, desk_resting whole_desk, w.limits.orders);
-      prices = λ s. elim s [
+      prices = λ s. elim s as (λ k. length (levels (own k (stored_book rs bd ak se b.bids b.asks))) ≤ z.prices) [
         | bid ↦ omega (arith, desk_prices whole_desk bid, w.limits.bids)
         | ask ↦ omega (arith, desk_prices whole_desk ask, w.limits.asks)
       ];
@@ -190,16 +190,19 @@ leaves_whole l v h = desk_whole l v.desk (rw v.book h)
 
 -- ## A fresh book
 
+abbrev nothing : Book (Unit {0})
+nothing = record { bids = []; asks = [] }
+
 pub nothing_whole : (z : Size) → WholeBook {A = Unit {0}} z (record { bids = []; asks = [] })
-unfolding seen Rattle.rules.specs.Rules.levels
+unfolding seen levels
 nothing_whole z = record {
   orderly = record {
-    sorted = λ s. elim s [ bid ↦ sorted[] | ask ↦ sorted[] ];
-    positive = λ s. elim s [ bid ↦ empty | ask ↦ empty ];
-    apart = λ s. elim s [ bid ↦ empty | ask ↦ empty ];
+    sorted = λ s. elim s as (λ k. Sorted {A = Unit {0}} k (own k nothing)) [ bid ↦ sorted[] | ask ↦ sorted[] ];
+    positive = λ s. elim s as (λ k. Positive {A = Unit {0}} (own k nothing)) [ bid ↦ empty | ask ↦ empty ];
+    apart = λ s. elim s as (λ k. Apart {A = Unit {0}} k (own k nothing) (own (opposite k) nothing)) [ bid ↦ empty | ask ↦ empty ];
   };
   once = λ i. omega arith;
-  fits = record { orders = omega arith; prices = λ s. elim s [ bid ↦ omega arith | ask ↦ omega arith ] };
+  fits = record { orders = omega arith; prices = λ s. elim s as (λ k. length (levels {A = Unit {0}} (own k nothing)) ≤ z.prices) [ bid ↦ omega arith | ask ↦ omega arith ] };
 }
 
 pub fresh_whole : {z : Size} {b : OrderBook} {rs bd ak se : List ℕ} → Lengths z rs bd ak se → Leaves (record { bids = []; asks = [] }) rs bd ak se b.resting b.free b.bids b.asks → WholeStorage z b rs bd ak se
