@@ -8,7 +8,7 @@ pub field_at-requires : goal.field_at-requires
 field_at-requires c = sym c.in-Header.is ∙ c.front_at.ensures
 
 pub returns-in-End : goal.returns-in-End
-returns-in-End c = sym (ap (found c.args.at) (item_end _ (c.in-End.ensures)))
+returns-in-End c = sym (ap (found c.args.at) (item_end _ c.in-End.ensures))
 
 pub returns-in-Stump : goal.returns-in-Stump
-returns-in-Stump c = sym (ap (found c.args.at) (item_stump _ (c.in-Stump.ensures)))
+returns-in-Stump c = sym (ap (found c.args.at) (item_stump _ c.in-Stump.ensures))
