@@ -4,14 +4,41 @@
 
 ghost use Rattle.std.specs.Prelude.{◌≡◌, true, ◌+◌, ◌-◌, ◌≤◌, length, take, drop};
 ghost use Rattle.std.proofs.Math.Seq.{paste};
-ghost use Rattle.io.specs.Counts.{IsPrefixLen};
 
-use libc::{STDIN_FILENO, STDOUT_FILENO};
+use std::env::FillError;
+use std::fs::File;
+use std::io;
+use std::io::{Print, Read, Stdin, Write};
+use std::rt::Env;
 
-// Where the stream comes from, and the length of its name. The descriptor is below 0 where it can't be opened.
-#[derive(Clone, Copy)]
+// What the system's number is of an error: a name is too long, or it is no UTF-8 (which std can't open).
+const TOO_LONG: i32 = 36;
+
+const NOT_TEXT: i32 = 84;
+
+// No words of an error are longer.
+const WORDS: usize = 128;
+
+// Where the bytes come from.
+#[derive(Drop)]
+pub enum Input {
+    Standard(Stdin),
+    Named(File),
+}
+
+impl Read for Input {
+    fn read(&mut self, buf: &mut [u8]) -> io::Result<usize> {
+        match self {
+            Input::Standard(stdin) => stdin.read(buf),
+            Input::Named(file) => file.read(buf),
+        }
+    }
+}
+
+// Where the stream comes from, and the length of its name. There is no input where it can't be opened.
+#[derive(Drop)]
 pub struct Source {
-    pub fd: i32,
+    pub input: Option<Input>,
     pub name: usize,
 }
 
@@ -24,31 +51,52 @@ pub struct Came {
 }
 
 // The file that the program's first argument names, or standard input where there is none; its name is put at the start of a lent buffer.
-pub fn open_source(name: &mut [u8]) -> Source
+pub fn open_source(rt: &HostRuntime, name: &mut [u8]) -> Source
     requires { 14 ≤ length name.old }
-    ensures { IsPrefixLen result.name name.new }
+    ensures { (result.name ≤ length name.new) × (result.name ≡ length (take result.name name.new)) }
 {
-    if os::arg_count() <= 1 {
-        return Source {
-            fd: STDIN_FILENO,
+    let err = rt.stderr();
+    match rt.arg(1, name) {
+        Ok(length) => Source {
+            input: open_named(rt, &name[..length]),
+            name: length,
+        },
+        Err(FillError::NotPresent) => Source {
+            input: Some(Input::Standard(rt.stdin())),
             name: put_name(name),
-        };
+        },
+        Err(FillError::TooLong) => {
+            fail(
+                &err,
+                b"the first argument",
+                io::Error::from_raw_os_error(TOO_LONG),
+            );
+            Source {
+                input: None,
+                name: 0,
+            }
+        }
     }
-    let length = os::arg(1, name);
-    if os::errno() != 0 {
-        os::fail(b"the first argument");
-        return Source { fd: -1, name: 0 };
+}
+
+// The file of a name, if it can be opened.
+fn open_named(rt: &HostRuntime, name: &[u8]) -> Option<Input> {
+    let opened = match std::str::from_utf8(name) {
+        Ok(text) => File::open(rt, text),
+        Err(_) => Err(io::Error::from_raw_os_error(NOT_TEXT)),
+    };
+    match opened {
+        Ok(file) => Some(Input::Named(file)),
+        Err(error) => {
+            fail(&rt.stderr(), name, error);
+            None
+        }
     }
-    let fd = os::open_read(&name[..length]);
-    if fd < 0 {
-        os::fail(&name[..length]);
-    }
-    Source { fd, name: length }
 }
 
 fn put_name(name: &mut [u8]) -> usize
     requires { 14 ≤ length name.old }
-    ensures { IsPrefixLen result name.new }
+    ensures { (result ≤ length name.new) × (result ≡ length (take result name.new)) }
 {
     let words = b"standard input";
     let mut i = 0;
@@ -57,6 +105,31 @@ fn put_name(name: &mut [u8]) -> usize
         i += 1;
     }
     i
+}
+
+// Where the words of an error end: std puts the system's number behind them.
+fn words_end(text: &[u8]) -> usize
+    ensures { result ≤ length text.now }
+{
+    for i in 0..text.len() {
+        if text[i..].starts_with(b" (os error ") {
+            return i;
+        }
+    }
+    text.len()
+}
+
+// A line on standard error: what failed, a colon, and the words of its error. A line that can't be written is lost.
+pub fn fail(err: &impl Print, what: &[u8], error: io::Error) {
+    let mut text = [0u8; WORDS];
+    let mut left = &mut text[..];
+    let _ = write!(left, "{error}");
+    let n = WORDS.saturating_sub(left.len());
+    let end = words_end(&text[..n]);
+    let _ = err.write_all(what);
+    let _ = err.write_all(b": ");
+    let _ = err.write_all(&text[..end]);
+    let _ = err.write_all(b"\n");
 }
 
 // The bytes from `from` up to `end` move to the front of the buffer; how many they are.
@@ -73,43 +146,44 @@ pub fn move_down(buffer: &mut [u8], from: usize, end: usize) -> usize
     n
 }
 
-fn least(a: usize, b: usize) -> usize
-    ensures { result ≤ b }
-{
-    if a < b { a } else { b }
-}
-
 // One read, behind the bytes that are kept, which stay as they are. A failure is said, with the name of what is read.
-pub fn read_behind(fd: i32, name: &[u8], buffer: &mut [u8], kept: usize) -> Came
+pub fn read_behind<R: Read>(
+    from: &mut R,
+    err: &impl Print,
+    name: &[u8],
+    buffer: &mut [u8],
+    kept: usize,
+) -> Came
     requires { kept ≤ length buffer.old }
     ensures { (kept + result.bytes ≤ length buffer.old) × (take kept buffer.new ≡ take kept buffer.old)
         × (result.ended ≡ true → result.bytes ≡ 0) }
 {
-    let room = buffer.len() - kept;
-    let got = libc::read(fd, &mut buffer[kept..]);
-    if got < 0 {
-        os::fail(name);
-        return Came {
-            bytes: 0,
-            ended: false,
-            failed: true,
-        };
-    }
-    let bytes = least(io::count(got, buffer), room);
-    Came {
-        bytes,
-        ended: bytes == 0,
-        failed: false,
+    match from.read(&mut buffer[kept..]) {
+        Ok(bytes) => Came {
+            bytes,
+            ended: bytes == 0,
+            failed: false,
+        },
+        Err(error) => {
+            fail(err, name, error);
+            Came {
+                bytes: 0,
+                ended: false,
+                failed: true,
+            }
+        }
     }
 }
 
 // The first `to` bytes of a buffer go out; whether they did.
-pub fn write_out(buffer: &[u8], to: usize) -> bool
+pub fn write_out(out: &impl Print, err: &impl Print, buffer: &[u8], to: usize) -> bool
     requires { to ≤ length buffer.now }
 {
-    let written = io::write_all(STDOUT_FILENO, &buffer[..to]);
-    if !written {
-        os::fail(b"standard output");
+    match out.write_all(&buffer[..to]) {
+        Ok(()) => true,
+        Err(error) => {
+            fail(err, b"standard output", error);
+            false
+        }
     }
-    written
 }
