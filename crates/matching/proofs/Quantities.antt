@@ -1,5 +1,5 @@
 -- Records of which only quantities change: a side's levels, their layout and its queues stay. Assumes nothing.
-use Prim.Native.Nat.{suc, zero, ℕ, ◌-◌, ◌/◌, ◌<◌}
+use Prim.Native.Nat.{suc, zero, ℕ, ◌/◌, ◌<◌}
 use mathlib.Core.List.{List, [], ◌∷◌}
 use mathlib.Core.Logic.{◌≢◌}
 use mathlib.Core.Path.{ap, refl, sym, ◌∙◌, ◌≡◌}
