@@ -1,5 +1,5 @@
 -- What is decided of an order, test by test. Assumes nothing.
-use Prim.Native.Nat.{ℕ, zero, suc, ◌-◌, ◌≤◌, ◌<◌}
+use Prim.Native.Nat.{ℕ, zero, suc, ◌≤◌, ◌<◌}
 use mathlib.Core.Path.{◌≡◌, refl, sym, ap, ◌∙◌}
 use mathlib.Core.Bool.{Bool, true, false, not}
 use borrow.Author.Tests.{lt-ltb, le-ltb}
@@ -10,7 +10,7 @@ use Rattle.stats.specs.declared.Totals.{Totals}
 use Rattle.stats.specs.Statistics.{over_of}
 use Rattle.survey.specs.declared.Taker.{Taker}
 use Rattle.survey.specs.declared.Outlook.{Outlook}
-use Rattle.order.specs.Decided.{refusal_number, filled, remains, totals_by, passes, decided, nothing_filled, event_by}
+use Rattle.order.specs.Decided.{refusal_number, remains, totals_by, passes, decided, nothing_filled, event_by}
 
 pub remains_none : (any : Bool) (r : ℕ) → r ≡ 0 → remains any r ≡ false
 remains_none any r e = rw e
