@@ -7,7 +7,7 @@ use native.Mathlib.Omega.{arith}
 use lib.ListN.{drop, length, length-drop}
 use lib.Seq.{drop-drop}
 use borrow.Author.Tests.{eq-eqb}
-use Rattle.rules.specs.Rules.{Book, Side, ask, bid, book, own}
+use Rattle.rules.specs.Rules.{Book, Side, ask, bid, own}
 use Rattle.arena.specs.Ring.{cut}
 use Rattle.arena.specs.Times.{times}
 use Rattle.arena.proofs.Times.{one_self}
