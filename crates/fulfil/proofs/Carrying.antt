@@ -1,5 +1,5 @@
 -- What an order comes to by the rules, in the terms of the doors: carried out, with a remainder that rests or not. Assumes nothing.
-use Prim.Native.Nat.{ℕ, zero, suc, ◌-◌}
+use Prim.Native.Nat.{ℕ, zero, suc}
 use native.Mathlib.Omega.{arith}
 use mathlib.Core.Path.{◌≡◌, refl}
 use mathlib.Core.Bool.{Bool, true, false}
