@@ -6,7 +6,6 @@ mod cases; // cases.rt: S, quantity and the bits of their average
 
 ghost use Rattle.stats.specs.Statistics.{fills_in, Follows};
 
-use libc::STDOUT_FILENO;
 use models::Quantity;
 use stats::{LastTrade, Recorded, Statistics, Trade, bits, door};
 
@@ -43,43 +42,43 @@ fn by_loan(before: Statistics, fills: &[u64], count: usize) -> Recorded
     Recorded { code, statistics }
 }
 
-fn put(text: &[u8]) {
-    io::write_all(STDOUT_FILENO, text);
+fn put(rt: &impl Print, text: &[u8]) {
+    let _ = rt.write_all(text);
 }
 
-fn number(text: &[u8], n: u64) {
-    put(text);
-    io::print_decimal(STDOUT_FILENO, n);
+fn number(rt: &impl Print, text: &[u8], n: u64) {
+    put(rt, text);
+    let _ = rt.print(n);
 }
 
-fn pattern(text: &[u8], n: u64) {
-    put(text);
-    io::print_hex(STDOUT_FILENO, n, 16);
+fn pattern(rt: &impl Print, text: &[u8], n: u64) {
+    put(rt, text);
+    let _ = print!(rt; "{n:016x}");
 }
 
-fn verdict(same: bool) {
+fn verdict(rt: &impl Print, same: bool) {
     if same {
-        put(b" equal\n");
+        put(rt, b" equal\n");
     } else {
-        put(b" DIFFERS\n");
+        put(rt, b" DIFFERS\n");
     }
 }
 
 // One case: the average that the library finds, and whether it is the stored one.
-fn case(worth: u64, qty: u64, stored: u64) {
+fn case(rt: &impl Print, worth: u64, qty: u64, stored: u64) {
     let found = bits::bits_of(stats::average(worth, Quantity(qty)));
-    number(b"average of ", worth);
-    number(b" by ", qty);
-    pattern(b": ", found);
-    verdict(found == stored);
+    number(rt, b"average of ", worth);
+    number(rt, b" by ", qty);
+    pattern(rt, b": ", found);
+    verdict(rt, found == stored);
 }
 
-fn averages(cases: &[u64]) {
+fn averages(rt: &impl Print, cases: &[u64]) {
     let n = cases.len() / CASE;
     let mut i = 0;
     while i < n {
         let at = i * CASE;
-        case(cases[at], cases[at + 1], cases[at + 2]);
+        case(rt, cases[at], cases[at + 1], cases[at + 2]);
         i += 1;
     }
 }
@@ -130,33 +129,39 @@ fn same(a: Recorded, b: Recorded) -> bool {
     same_last(x, y)
 }
 
-fn tell_trade(t: Trade) {
-    number(b", last trade ", t.total_qty.0);
-    pattern(b", average ", bits::bits_of(t.avg_price));
-    number(b", whole average ", t.whole_avg_price.0);
-    number(b", last fill ", t.last_qty.0);
-    number(b" at ", t.last_price.0);
+fn tell_trade(rt: &impl Print, t: Trade) {
+    number(rt, b", last trade ", t.total_qty.0);
+    pattern(rt, b", average ", bits::bits_of(t.avg_price));
+    number(rt, b", whole average ", t.whole_avg_price.0);
+    number(rt, b", last fill ", t.last_qty.0);
+    number(rt, b" at ", t.last_price.0);
 }
 
-fn tell(r: Recorded) {
+fn tell(rt: &impl Print, r: Recorded) {
     let s = r.statistics;
     let last = s.last_trade();
-    number(b": ", r.code);
-    number(b", volume ", s.traded_volume().0);
+    number(rt, b": ", r.code);
+    number(rt, b", volume ", s.traded_volume().0);
     match last {
-        LastTrade::Absent => put(b", no last trade"),
-        LastTrade::Present(t) => tell_trade(t),
+        LastTrade::Absent => put(rt, b", no last trade"),
+        LastTrade::Present(t) => tell_trade(rt, t),
     }
 }
 
 // Fills are recorded by value and by loan: what came of it, and whether it is the same. What the loan left is handed on.
-fn record(before: Statistics, label: &[u8], fills: &[u64], count: usize) -> Statistics {
+fn record(
+    rt: &impl Print,
+    before: Statistics,
+    label: &[u8],
+    fills: &[u64],
+    count: usize,
+) -> Statistics {
     let a = before.recorded(fills, count);
     let b = by_loan(before, fills, count);
-    put(label);
-    tell(a);
-    put(b"; by loan");
-    verdict(same(a, b));
+    put(rt, label);
+    tell(rt, a);
+    put(rt, b"; by loan");
+    verdict(rt, same(a, b));
     b.statistics
 }
 
@@ -165,40 +170,40 @@ fn fresh(tracking: bool) -> Statistics {
 }
 
 // S up to 2^64 - 1, and beyond.
-fn largest_worth() {
-    let b = record(fresh(true), b"D3, 2 at 2^63 - 1", &WITHIN, 1);
-    let c = record(b, b"D3, 2 at 2^63", &BEYOND, 1);
-    let d = record(c, b"D3 again, 2 at 2^63 - 1", &WITHIN, 1);
-    record(d, b"nothing at 50", &NOTHING, 1);
+fn largest_worth(rt: &impl Print) {
+    let b = record(rt, fresh(true), b"D3, 2 at 2^63 - 1", &WITHIN, 1);
+    let c = record(rt, b, b"D3, 2 at 2^63", &BEYOND, 1);
+    let d = record(rt, c, b"D3 again, 2 at 2^63 - 1", &WITHIN, 1);
+    record(rt, d, b"nothing at 50", &NOTHING, 1);
 }
 
-fn untracked() {
-    record(fresh(false), b"D3, tracking off", &BEYOND, 1);
+fn untracked(rt: &impl Print) {
+    record(rt, fresh(false), b"D3, tracking off", &BEYOND, 1);
 }
 
 // A volume up to 2^64 - 1, and beyond.
-fn largest_volume() {
-    let b = record(fresh(true), b"2^64 - 1 at 1", &MOST, 1);
-    record(b, b"T6 after it", &T6, 1);
-    record(fresh(true), b"2^64 at 0", &ONE_MORE, 2);
+fn largest_volume(rt: &impl Print) {
+    let b = record(rt, fresh(true), b"2^64 - 1 at 1", &MOST, 1);
+    record(rt, b, b"T6 after it", &T6, 1);
+    record(rt, fresh(true), b"2^64 at 0", &ONE_MORE, 2);
 }
 
-fn morning() -> Statistics {
-    let b = record(fresh(true), b"T4", &T4, 2);
-    let c = record(b, b"T5", &T5, 1);
-    record(c, b"T6", &T6, 1)
+fn morning(rt: &impl Print) -> Statistics {
+    let b = record(rt, fresh(true), b"T4", &T4, 2);
+    let c = record(rt, b, b"T5", &T5, 1);
+    record(rt, c, b"T6", &T6, 1)
 }
 
-fn afternoon(b: Statistics) {
-    let c = record(b, b"T7", &T4, 0);
-    let d = record(c, b"T11", &T11, 1);
-    record(d, b"all rows of T4, said to be nine", &T4, 9);
+fn afternoon(rt: &impl Print, b: Statistics) {
+    let c = record(rt, b, b"T7", &T4, 0);
+    let d = record(rt, c, b"T11", &T11, 1);
+    record(rt, d, b"all rows of T4, said to be nine", &T4, 9);
 }
 
-fn main() {
-    averages(&cases::CASES);
-    largest_worth();
-    untracked();
-    largest_volume();
-    afternoon(morning());
+fn main(rt: HostRuntime) {
+    averages(&rt, &cases::CASES);
+    largest_worth(&rt);
+    untracked(&rt);
+    largest_volume(&rt);
+    afternoon(&rt, morning(&rt));
 }

@@ -10,30 +10,30 @@ mod output; // output.rt: the tape that goes out
 mod run; // run.rt: a run, turn by turn
 mod words; // words.rt: a line's words and numbers
 
-use run::{begun, turn, written};
-use stream::open_source;
+use run::{ROOM, begun, turn, written};
+use stream::{Input, open_source};
+
+// No file has a longer name.
+const NAME: usize = 4096;
 
 // The turns are counted, so that the run ends whatever comes in.
-fn punch(fd: i32, name: &[u8]) {
-    let mut text = io::large_buffer();
-    let mut tape = io::large_buffer();
+fn punch(rt: &HostRuntime, from: &mut Input, name: &[u8]) {
+    let mut text = [0u8; ROOM];
+    let mut tape = [0u8; ROOM];
     let mut run = begun();
     let mut turns = u64::MAX;
     while turns > 0 && !run.over {
-        run = turn(fd, name, &mut text, &mut tape, run);
+        run = turn(rt, from, name, &mut text, &mut tape, run);
         turns -= 1;
     }
-    written(&tape, run);
+    written(rt, &tape, run);
 }
 
-fn main() {
-    let mut name = io::buffer();
-    let source = open_source(&mut name);
-    let fd = source.fd;
+fn main(rt: HostRuntime) {
+    let mut name = [0u8; NAME];
+    let source = open_source(&rt, &mut name);
     let length = source.name;
-    if fd < 0 {
-        return;
+    if let Some(mut from) = source.input {
+        punch(&rt, &mut from, &name[..length]);
     }
-    punch(fd, &name[..length]);
-    libc::close(fd);
 }

@@ -6,9 +6,8 @@ use crate::faults::wrong;
 use crate::line::{LONGEST_LINE, read_line};
 use crate::output::put_order;
 use crate::words::State;
-use bytes::scan::find;
 use models::OrderType;
-use stream::{move_down, read_behind, write_out};
+use stream::{Input, move_down, read_behind, write_out};
 use tape::LONGEST;
 
 // What text and tape have room for.
@@ -50,12 +49,18 @@ fn over(mut run: Run) -> Run
     run
 }
 
-fn read_more(fd: i32, name: &[u8], text: &mut [u8; ROOM], mut run: Run) -> Run
+fn read_more(
+    rt: &HostRuntime,
+    from: &mut Input,
+    name: &[u8],
+    text: &mut [u8; ROOM],
+    mut run: Run,
+) -> Run
     requires { Sound run.start run.end run.to }
     ensures { Sound result.start result.end result.to }
 {
     let kept = move_down(text, run.start, run.end);
-    let came = read_behind(fd, name, text, kept);
+    let came = read_behind(from, &rt.stderr(), name, text, kept);
     run.start = 0;
     run.end = kept + came.bytes;
     run.ended = came.ended;
@@ -78,37 +83,37 @@ fn passed(mut run: Run, stop: usize) -> Run
 {
     run.over = run.over || stop == run.end;
     run.start = next_start(stop, run.end);
-    run.line = std::num::wrapping_add_u64(run.line, 1);
+    run.line = run.line.wrapping_add(1);
     run
 }
 
 // What is punched goes out. A write that fails ends the run.
-pub fn written(tape: &[u8; ROOM], mut run: Run) -> Run
+pub fn written(rt: &HostRuntime, tape: &[u8; ROOM], mut run: Run) -> Run
     requires { Sound run.start run.end run.to }
     ensures { (result.end ≡ run.end) × (result.start ≤ result.end) × (result.to ≤ 0) }
 {
-    run.over = !write_out(tape, run.to);
+    run.over = !write_out(&rt.stdout(), &rt.stderr(), tape, run.to);
     run.to = 0;
     run
 }
 
 // Room for any order.
-fn with_room(tape: &[u8; ROOM], run: Run) -> Run
+fn with_room(rt: &HostRuntime, tape: &[u8; ROOM], run: Run) -> Run
     requires { Sound run.start run.end run.to }
     ensures { (result.end ≡ run.end) × Sound result.start result.end result.to × (result.to + 28 ≤ 65536) }
 {
     if ROOM - run.to >= LONGEST {
         return run;
     }
-    written(tape, run)
+    written(rt, tape, run)
 }
 
 // An order goes onto the tape.
-fn punched(tape: &mut [u8; ROOM], run: Run, order: OrderType) -> Run
+fn punched(rt: &HostRuntime, tape: &mut [u8; ROOM], run: Run, order: OrderType) -> Run
     requires { Sound run.start run.end run.to }
     ensures { (result.end ≡ run.end) × Sound result.start result.end result.to }
 {
-    let mut ready = with_room(tape, run);
+    let mut ready = with_room(rt, tape, run);
     if ready.over {
         return ready;
     }
@@ -131,7 +136,7 @@ fn trimmed(text: &[u8], start: usize, stop: usize) -> usize
 }
 
 // The line that ends at `stop`: its order goes onto the tape, or what is wrong is said, and the run is over.
-fn punch_line(text: &[u8], tape: &mut [u8; ROOM], run: Run, stop: usize) -> Run
+fn punch_line(rt: &HostRuntime, text: &[u8], tape: &mut [u8; ROOM], run: Run, stop: usize) -> Run
     requires { (run.start ≤ stop) × (stop ≤ run.end) × (run.end ≤ length text.now) × Sound run.start run.end run.to }
     ensures { Sound result.start result.end result.to }
 {
@@ -144,25 +149,43 @@ fn punch_line(text: &[u8], tape: &mut [u8; ROOM], run: Run, stop: usize) -> Run
     let from = start + along.start;
     let to = start + along.end;
     match state {
-        State::Well => passed(punched(tape, run, order), stop),
+        State::Well => passed(punched(rt, tape, run, order), stop),
         State::Blank => passed(run, stop),
         _ => {
-            wrong(run.line, &text[from..to], state);
+            wrong(&rt.stderr(), run.line, &text[from..to], state);
             over(run)
         }
     }
 }
 
+// The first place of a line feed from `start` up to `end`; where there is none, `end`.
+fn line_end(text: &[u8], start: usize, end: usize) -> usize
+    requires { Within start end text.now }
+    ensures { (start ≤ result) × (result ≤ end) }
+{
+    match text[start..end].iter().position(|b| *b == b'\n') {
+        Some(n) => start + n,
+        None => end,
+    }
+}
+
 // One turn.
-pub fn turn(fd: i32, name: &[u8], text: &mut [u8; ROOM], tape: &mut [u8; ROOM], run: Run) -> Run
+pub fn turn(
+    rt: &HostRuntime,
+    from: &mut Input,
+    name: &[u8],
+    text: &mut [u8; ROOM],
+    tape: &mut [u8; ROOM],
+    run: Run,
+) -> Run
     requires { Sound run.start run.end run.to }
     ensures { Sound result.start result.end result.to }
 {
     let start = run.start;
     let end = run.end;
-    let stop = find(text, start, end, b'\n');
+    let stop = line_end(text, start, end);
     if stop < end || run.ended || end - start >= TOO_LONG {
-        return punch_line(text, tape, run, stop);
+        return punch_line(rt, text, tape, run, stop);
     }
-    read_more(fd, name, text, run)
+    read_more(rt, from, name, text, run)
 }

@@ -2,7 +2,6 @@
 ghost use Rattle.std.specs.Prelude.{◌<◌, ◌≤◌, length};
 ghost use Rattle.punch.specs.Places.{Within};
 
-use check::same;
 use tape::{ASK, CANCEL, LIMIT, MARKET};
 
 const BID: u8 = 0;
@@ -80,26 +79,20 @@ fn kind_of(word: &[u8]) -> Word
     if word[0] == b'#' {
         return not_well(State::Blank);
     }
-    if same(word, b"limit") {
-        return well(LIMIT);
+    match word {
+        b"limit" => well(LIMIT),
+        b"market" => well(MARKET),
+        b"cancel" => well(CANCEL),
+        _ => not_well(State::NoKind),
     }
-    if same(word, b"market") {
-        return well(MARKET);
-    }
-    if same(word, b"cancel") {
-        return well(CANCEL);
-    }
-    not_well(State::NoKind)
 }
 
 fn side_of(word: &[u8]) -> Word {
-    if same(word, b"bid") {
-        return well(BID);
+    match word {
+        b"bid" => well(BID),
+        b"ask" => well(ASK),
+        _ => not_well(State::NoSide),
     }
-    if same(word, b"ask") {
-        return well(ASK);
-    }
-    not_well(State::NoSide)
 }
 
 // A digit's value; 10 where the byte is none.

@@ -11,7 +11,7 @@ use std::io;
 use std::io::{Print, Read, Stdin, Write};
 use std::rt::Env;
 
-// What the system's number is of an error: a name is too long, or it is no UTF-8 (which std can't open).
+// The system's numbers of two errors: a name is too long; and one is no UTF-8, which std can't open.
 const TOO_LONG: i32 = 36;
 
 const NOT_TEXT: i32 = 84;
