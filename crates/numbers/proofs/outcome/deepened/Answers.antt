@@ -1,0 +1,13 @@
+-- `numbers::outcome::deepened` meets its contract: each case of the answer is the definition's case. Assumes nothing.
+use Rattle.numbers.specs.Reports.{refused, told}
+use mathlib.Core.Path.{refl}
+use Rattle.numbers.proofs.outcome.deepened.Goals as goal
+
+pub depth_numbers-numbers-requires : goal.depth_numbers-numbers-requires
+depth_numbers-numbers-requires c = tt
+
+pub returns-in-Refused : goal.returns-in-Refused
+returns-in-Refused c = refused c.in-Refused.is refl
+
+pub returns-in-Told : goal.returns-in-Told
+returns-in-Told c = told _ c.in-Told.is refl c.depth_numbers-numbers.ensures
