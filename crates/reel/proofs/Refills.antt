@@ -46,10 +46,10 @@ module _ {t : List ℕ} {base : ℕ} {w : List ℕ} {last : Bool} (v : Window t 
   part_along (more p h q) = more (part_along p) (inl refl) (step_along h q)
 
 -- one run behind another
-joined : {z : rule.Size} {t : List ℕ} {at mid next : ℕ} {x y x' : Keeping} {text said : List ℕ} {s : State} → Served z t 0 true at x text Going mid y
+joined : {z : rule.Size} {t : List ℕ} {at mid : ℕ} {x y : Keeping} {text : List ℕ} {next : ℕ} {x' : Keeping} {said : List ℕ} {s : State} → Served z t 0 true at x text Going mid y
     → Served z t 0 true mid y said s next x' → Served z t 0 true at x (text ++ said) s next x'
-joined {z} {t} {at} {mid} {x = x} {y} {text = text} p none = subst (λ (l : List ℕ). Served z t 0 true at x l Going mid y) (sym (append-nil text)) p
-joined {z} {t} {at} {next = next} {x} {x' = x'} {text} {s = s} p (more {text = head} {said = tail} q h r) =
+joined {z} {t} {at} {mid} {x} {y} {text} p none = subst (λ (l : List ℕ). Served z t 0 true at x l Going mid y) (sym (append-nil text)) p
+joined {z} {t} {at} {x = x} {text = text} {next = next} {x' = x'} {s = s} p (more {text = head} {said = tail} q h r) =
     subst (λ (l : List ℕ). Served z t 0 true at x l s next x') (append_assoc text head tail) (more (joined p q) h r)
 
 parts_along : {z : rule.Size} {t : List ℕ} {x : Keeping} {text : List ℕ} {s : State} {next : ℕ} {x' : Keeping} → Reeled z t x text s next x'
