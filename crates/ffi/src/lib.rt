@@ -1,6 +1,6 @@
-// The desk of the base for C and Rust: every public call of `orderbook` as an exported function, the check of a whole book at any size, and a tape's orders
-// read and written. A slice passes as a pointer and a length; the twelve numbers of a desk, the four of an answer and the six of a slip as pointers. Each
-// returns 0, or the number of the refusal, in which case nothing lent has changed. include/felavuti.h is the header.
+// The desk of the base for C and Rust: every public call of `orderbook` as a function that `ffi_c` exports, the check of a whole book at any size, and a
+// tape's orders read and written. A slice passes as a pointer and a length; the twelve numbers of a desk, the four of an answer and the six of a slip as
+// pointers. Each returns 0, or the number of the refusal, in which case nothing lent has changed. include/felavuti.h is the header.
 #![tactic(auto)]
 
 ghost use Rattle.std.specs.Prelude.{◌≡◌, [], not, eqb, set};
@@ -24,8 +24,7 @@ const ASK: u64 = 1;
 const NO_SIDE: u64 = 10;
 
 // A fresh book over storage of the right lengths, whatever it holds.
-#[unsafe(no_mangle)]
-pub extern "C" fn felavuti_fresh(
+pub fn felavuti_fresh(
     desk: &mut [u64; DESK],
     records: &mut [u64],
     bids: &mut [u64],
@@ -72,8 +71,7 @@ fn execute_lent(
 }
 
 // A market order.
-#[unsafe(no_mangle)]
-pub extern "C" fn felavuti_market(
+pub fn felavuti_market(
     desk: &mut [u64; DESK],
     records: &mut [u64],
     bids: &mut [u64],
@@ -102,8 +100,7 @@ pub extern "C" fn felavuti_market(
 }
 
 // A limit order.
-#[unsafe(no_mangle)]
-pub extern "C" fn felavuti_limit(
+pub fn felavuti_limit(
     desk: &mut [u64; DESK],
     records: &mut [u64],
     bids: &mut [u64],
@@ -134,8 +131,7 @@ pub extern "C" fn felavuti_limit(
 }
 
 // The order found under the id leaves, if there is one.
-#[unsafe(no_mangle)]
-pub extern "C" fn felavuti_cancel(
+pub fn felavuti_cancel(
     desk: &mut [u64; DESK],
     records: &mut [u64],
     bids: &mut [u64],
@@ -162,8 +158,7 @@ pub extern "C" fn felavuti_cancel(
 }
 
 // The lowest ask.
-#[unsafe(no_mangle)]
-pub extern "C" fn felavuti_min_ask(
+pub fn felavuti_min_ask(
     desk: &[u64; DESK],
     records: &[u64],
     bids: &[u64],
@@ -184,8 +179,7 @@ pub extern "C" fn felavuti_min_ask(
 }
 
 // The highest bid.
-#[unsafe(no_mangle)]
-pub extern "C" fn felavuti_max_bid(
+pub fn felavuti_max_bid(
     desk: &[u64; DESK],
     records: &[u64],
     bids: &[u64],
@@ -206,8 +200,7 @@ pub extern "C" fn felavuti_max_bid(
 }
 
 // The lowest ask less the highest bid, where both are there.
-#[unsafe(no_mangle)]
-pub extern "C" fn felavuti_spread(
+pub fn felavuti_spread(
     desk: &[u64; DESK],
     records: &[u64],
     bids: &[u64],
@@ -228,8 +221,7 @@ pub extern "C" fn felavuti_spread(
 }
 
 // Every occupied price with its total: asks from the start of `out`, then bids, both ascending.
-#[unsafe(no_mangle)]
-pub extern "C" fn felavuti_depth(
+pub fn felavuti_depth(
     desk: &[u64; DESK],
     records: &[u64],
     bids: &[u64],
@@ -252,8 +244,7 @@ pub extern "C" fn felavuti_depth(
 }
 
 // The order that the search finds under the id.
-#[unsafe(no_mangle)]
-pub extern "C" fn felavuti_get(
+pub fn felavuti_get(
     desk: &[u64; DESK],
     records: &[u64],
     bids: &[u64],
@@ -275,8 +266,7 @@ pub extern "C" fn felavuti_get(
 }
 
 // Whether a stored book is whole, at any size: 0, or 1 where it isn't.
-#[unsafe(no_mangle)]
-pub extern "C" fn felavuti_check(
+pub fn felavuti_check(
     orders: usize,
     prices: usize,
     desk: &[u64; DESK],
@@ -296,8 +286,7 @@ pub extern "C" fn felavuti_check(
 }
 
 // Switched tracking: no other number changes. Never refused.
-#[unsafe(no_mangle)]
-pub extern "C" fn felavuti_track_stats(desk: &mut [u64; DESK], on: u64) -> u64
+pub fn felavuti_track_stats(desk: &mut [u64; DESK], on: u64) -> u64
     ensures { (result ≡ 0) × (desk.new ≡ set desk.old 4 (yes (not (eqb on 0)))) }
 {
     desk[TRACKING] = numbers::number_of(on != 0);
@@ -305,8 +294,7 @@ pub extern "C" fn felavuti_track_stats(desk: &mut [u64; DESK], on: u64) -> u64
 }
 
 // What stands at a place of a tape, as a slip.
-#[unsafe(no_mangle)]
-pub extern "C" fn felavuti_read_order(tape: &[u8], at: usize, order: &mut [u64; SLIP]) -> u64
+pub fn felavuti_read_order(tape: &[u8], at: usize, order: &mut [u64; SLIP]) -> u64
     ensures { FieldRead tape.now at order.old result order.new }
 {
     let lent = *order;
@@ -317,8 +305,7 @@ pub extern "C" fn felavuti_read_order(tape: &[u8], at: usize, order: &mut [u64; 
 }
 
 // The order of a slip, written at a place of a tape.
-#[unsafe(no_mangle)]
-pub extern "C" fn felavuti_write_order(tape: &mut [u8], at: usize, order: &mut [u64; SLIP]) -> u64
+pub fn felavuti_write_order(tape: &mut [u8], at: usize, order: &mut [u64; SLIP]) -> u64
     ensures { FieldWritten tape.old at order.old result tape.new order.new }
 {
     let lent = *order;
