@@ -1,4 +1,4 @@
-/* The desk of the base for C: 1,024 resting orders, 128 prices a side; and orders on a tape. Link target/staticlib/libffi.a (`rt staticlib ffi`). x86-64.
+/* The desk of the base for C: 1,024 resting orders, 128 prices a side; and orders on a tape. Link target/staticlib/libffi.a (`rust/library`). x86-64.
  *
  * Storage is lent, and the caller owns it. The numbers that every call on a book takes:
  *

@@ -8,7 +8,7 @@ fn main() {
     println!("cargo:rerun-if-env-changed=FELAVUTI_LIB");
     println!("cargo:rerun-if-changed={}", archive.display());
     if !archive.is_file() {
-        panic!("there is no {}: build it with `rt staticlib ffi`, or let FELAVUTI_LIB name its folder", archive.display());
+        panic!("there is no {}: build it with `rust/library`, or let FELAVUTI_LIB name its folder", archive.display());
     }
     let target = env::var("TARGET").unwrap();
     if !target.starts_with("x86_64-") {

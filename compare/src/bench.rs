@@ -463,7 +463,7 @@ fn setting() -> String {
         .find_map(|line| line.strip_prefix("model name"))
         .map_or("unknown", |name| name.trim_start_matches([' ', '\t', ':']));
     format!(
-        "Processor: {computer}. Ours: libffi.a as `rt staticlib ffi` makes it, called through the safe wrapper. The wrapper and lobster: {}, opt-level 3, without \
+        "Processor: {computer}. Ours: libffi.a as `rust/library` makes it, called through the safe wrapper. The wrapper and lobster: {}, opt-level 3, without \
          link-time optimisation; lobster's sums wrap, as in any release build. Buffers for fills are made once with the book and never cleared; each order of \
          ours checks the whole book first.\n\n",
         env!("RUSTC_VERSION")

@@ -36,14 +36,14 @@ struct Due {
     stopped: bool,
 }
 
-/// The program: in the folder that FELAVUTI_BIN names, else in the one where `rt check` puts it.
+/// The program: in the folder that FELAVUTI_BIN names, else in the one where `rt ci` leaves it.
 pub fn program() -> Result<PathBuf, String> {
-    let usual = concat!(env!("CARGO_MANIFEST_DIR"), "/../target/bin");
+    let usual = concat!(env!("CARGO_MANIFEST_DIR"), "/../crates/felavuti/out");
     let path = std::env::var_os("FELAVUTI_BIN").map_or(usual.into(), PathBuf::from).join("felavuti");
     match path.is_file() {
         true => Ok(path),
         false => Err(format!(
-            "there is no program {} (make it with: rt check felavuti; FELAVUTI_BIN may name its folder)",
+            "there is no program {} (make it in crates/felavuti with: rt run; FELAVUTI_BIN may name its folder)",
             path.display()
         )),
     }
