@@ -52,39 +52,39 @@ fn with_book(d: OwnDesk, resting: usize, free: u64, asks: usize) -> OwnDesk {
 }
 
 // The desk with damage k, told.
-pub fn damaged(d: OwnDesk, k: u64) -> OwnDesk {
+pub fn damaged(rt: &impl Print, d: OwnDesk, k: u64) -> OwnDesk {
     let book = d.book;
     match k {
         0 => {
-            put(b"a record's quantity 0 for 5");
+            put(rt, b"a record's quantity 0 for 5");
             with_record(d, QUANTITY_OF_1, 0)
         }
         1 => {
-            put(b"a record's price 106 for 105");
+            put(rt, b"a record's price 106 for 105");
             with_record(d, PRICE_OF_1, 106)
         }
         2 => {
-            put(b"a bid level's price 105 for 100");
+            put(rt, b"a bid level's price 105 for 100");
             with_lowest_bid(d, 105)
         }
         3 => {
-            put(b"order 2 in the search's place for id 1");
+            put(rt, b"order 2 in the search's place for id 1");
             with_home(d, PLACE_OF_2)
         }
         4 => {
-            put(b"4 said to rest");
+            put(rt, b"4 said to rest");
             with_book(d, 4, book.free, 1)
         }
         5 => {
-            put(b"2 ask prices said");
+            put(rt, b"2 ask prices said");
             with_book(d, 3, book.free, 2)
         }
         6 => {
-            put(b"order 1's place said to be free");
+            put(rt, b"order 1's place said to be free");
             with_book(d, 3, PLACE_OF_1, 1)
         }
         _ => {
-            put(b"no damage");
+            put(rt, b"no damage");
             d
         }
     }

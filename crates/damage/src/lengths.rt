@@ -54,11 +54,11 @@ fn other(k: u64) -> Sizes {
     }
 }
 
-fn tell_sizes(l: Sizes) {
-    number(b"records ", l.records as u64);
-    number(b", bids ", l.bids as u64);
-    number(b", asks ", l.asks as u64);
-    number(b", search ", l.search as u64);
+fn tell_sizes(rt: &impl Print, l: Sizes) {
+    number(rt, b"records ", l.records as u64);
+    number(rt, b", bids ", l.bids as u64);
+    number(rt, b", asks ", l.asks as u64);
+    number(rt, b", search ", l.search as u64);
 }
 
 // A cancel of order 3 over the first numbers of the slices.
@@ -86,7 +86,7 @@ fn cancel(
 }
 
 // The same over a desk's storage; for a refusal, whether everything is as it was.
-fn withdraw(d: OwnDesk, l: Sizes) {
+fn withdraw(rt: &impl Print, d: OwnDesk, l: Sizes) {
     let mut records = d.records;
     let mut bids = d.bids;
     let mut asks = d.asks;
@@ -103,19 +103,25 @@ fn withdraw(d: OwnDesk, l: Sizes) {
         book,
         statistics,
     };
-    put(b", cancel 3: ");
-    tell_answer(answer, same_desk(d, after));
+    put(rt, b", cancel 3: ");
+    tell_answer(rt, answer, same_desk(d, after));
 }
 
-fn tell_opening(opening: Opening, kept: bool) {
+fn tell_opening(rt: &impl Print, opening: Opening, kept: bool) {
     match opening {
-        Opening::Refused(n) => refused(n, kept),
-        Opening::Made(book, statistics) => put(b"made\n"),
+        Opening::Refused(n) => refused(rt, n, kept),
+        Opening::Made(book, statistics) => put(rt, b"made\n"),
     }
 }
 
 // A fresh book over slices of marks; whether they are as they were.
-fn fresh(records: &mut [u64], bids: &mut [u64], asks: &mut [u64], search: &mut [u64]) {
+fn fresh(
+    rt: &impl Print,
+    records: &mut [u64],
+    bids: &mut [u64],
+    asks: &mut [u64],
+    search: &mut [u64],
+) {
     let opening = orderbook::fresh(records, bids, asks, search);
     let kept = all(
         is_unwritten(records),
@@ -123,11 +129,11 @@ fn fresh(records: &mut [u64], bids: &mut [u64], asks: &mut [u64], search: &mut [
         is_unwritten(asks),
         is_unwritten(search),
     );
-    put(b", a fresh book: ");
-    tell_opening(opening, kept);
+    put(rt, b", a fresh book: ");
+    tell_opening(rt, opening, kept);
 }
 
-fn fresh_of(l: Sizes) {
+fn fresh_of(rt: &impl Print, l: Sizes) {
     let mut records = [MARK; LONG_RECORDS];
     let mut bids = [MARK; LONG_LEVELS];
     let mut asks = [MARK; LONG_LEVELS];
@@ -137,6 +143,7 @@ fn fresh_of(l: Sizes) {
     let a = least(l.asks, LONG_LEVELS);
     let s = least(l.search, LONG_PLACES);
     fresh(
+        rt,
         &mut records[..r],
         &mut bids[..b],
         &mut asks[..a],
@@ -145,12 +152,12 @@ fn fresh_of(l: Sizes) {
 }
 
 // A fresh book over lengths number k, and where a desk's own storage is enough for them a cancel too.
-pub fn attempt(d: OwnDesk, k: u64) {
+pub fn attempt(rt: &impl Print, d: OwnDesk, k: u64) {
     let l = other(k);
-    tell_sizes(l);
-    fresh_of(l);
+    tell_sizes(rt, l);
+    fresh_of(rt, l);
     if k < 4 {
-        tell_sizes(l);
-        withdraw(d, l);
+        tell_sizes(rt, l);
+        withdraw(rt, d, l);
     }
 }

@@ -11,15 +11,15 @@ use models::OrderType;
 use script::{FILLS, OwnDesk, Quotes, SHOWN};
 use tell::put;
 
-fn tell_quotes(quotes: Quotes) {
+fn tell_quotes(rt: &impl Print, quotes: Quotes) {
     let ask = quotes.ask;
     let bid = quotes.bid;
     let spread = quotes.spread;
-    put(b":");
-    tell::quote(b" ask ", b" no ask", ask);
-    tell::quote(b" bid ", b" no bid", bid);
-    tell::quote(b" spread ", b" no spread", spread);
-    put(b"\n");
+    put(rt, b":");
+    tell::quote(rt, b" ask ", b" no ask", ask);
+    tell::quote(rt, b" bid ", b" no bid", bid);
+    tell::quote(rt, b" spread ", b" no spread", spread);
+    put(rt, b"\n");
 }
 
 // A market order, a limit order and a cancel in turn.
@@ -32,34 +32,34 @@ fn order_of(k: u64) -> OrderType {
 }
 
 // On a copy with damage k: the three quotes, depth, and an order or a cancel.
-fn attempt(whole: OwnDesk, k: u64) {
-    let d = damaged(whole, k);
-    tell_quotes(script::quoted(d));
-    kept::depth(d, SHOWN);
-    kept::order(d, FILLS, order_of(k));
+fn attempt(rt: &impl Print, whole: OwnDesk, k: u64) {
+    let d = damaged(rt, whole, k);
+    tell_quotes(rt, script::quoted(d));
+    kept::depth(rt, d, SHOWN);
+    kept::order(rt, d, FILLS, order_of(k));
 }
 
 // Asks of 5 and 3 at 105 and a bid of 4 at 100.
-fn three() -> OwnDesk {
-    let first = kept::order(script::fresh(), FILLS, script::ask(1, 5, 105));
-    let second = kept::order(first, FILLS, script::ask(2, 3, 105));
-    kept::order(second, FILLS, script::bid(3, 4, 100))
+fn three(rt: &impl Print) -> OwnDesk {
+    let first = kept::order(rt, script::fresh(rt), FILLS, script::ask(1, 5, 105));
+    let second = kept::order(rt, first, FILLS, script::ask(2, 3, 105));
+    kept::order(rt, second, FILLS, script::bid(3, 4, 100))
 }
 
 // Trial k: the damages, then the lengths.
-fn trial(d: OwnDesk, k: u64) {
+fn trial(rt: &impl Print, d: OwnDesk, k: u64) {
     if k < HARMS {
-        attempt(d, k);
+        attempt(rt, d, k);
     } else {
-        lengths::attempt(d, k - HARMS);
+        lengths::attempt(rt, d, k - HARMS);
     }
 }
 
-fn main() {
-    let d = three();
+fn main(rt: HostRuntime) {
+    let d = three(&rt);
     let mut k = 0;
     while k < HARMS + LENGTHS {
-        trial(d, k);
+        trial(&rt, d, k);
         k += 1;
     }
 }

@@ -16,7 +16,7 @@ use orderbook::{LEVELS, PLACES, RECORDS, SIZE};
 use reel::part;
 use serve::State;
 use stats::Statistics;
-use stream::{open_source, write_out};
+use stream::{Input, open_source, write_out};
 use window::{MOST, Window, begun, refill};
 
 // Five numbers for a fill of every order that can rest.
@@ -26,6 +26,11 @@ const FILLS: usize = 5120;
 const TEXT: usize = 80975;
 
 const OUT: usize = 131072;
+
+// The buffer for the tape, and the one for its name: no file has a longer one.
+const TAPE: usize = 65536;
+
+const NAME: usize = 4096;
 
 // The turns so far, with one more; there are no more where the tape has ended or was stopped, or something failed.
 fn turns(state: State, well: bool, n: u64) -> u64
@@ -44,7 +49,8 @@ fn turns(state: State, well: bool, n: u64) -> u64
 
 // The orders of a tape, one after another, on a desk whose storage is lent.
 fn run(
-    fd: i32,
+    rt: &HostRuntime,
+    from: &mut Input,
     name: &[u8],
     book: OrderBook,
     statistics: Statistics,
@@ -64,7 +70,7 @@ fn run(
     let mut w = begun();
     let mut n = 0;
     while n < MOST {
-        w = refill(fd, name, tape, w);
+        w = refill(rt, from, name, tape, w);
         let start = w.start;
         let end = w.end;
         let base = w.base;
@@ -97,7 +103,10 @@ fn run(
             failed,
         };
         let state = turn.state;
-        let well = goes_well(failed, write_out(out, turn.behind));
+        let well = goes_well(
+            failed,
+            write_out(&rt.stdout(), &rt.stderr(), out, turn.behind),
+        );
         n = turns(state, well, n);
     }
 }
@@ -109,7 +118,7 @@ fn goes_well(failed: bool, written: bool) -> bool {
     written
 }
 
-fn carry_out(fd: i32, name: &[u8]) {
+fn carry_out(rt: &HostRuntime, from: &mut Input, name: &[u8]) {
     let mut records = [0u64; RECORDS];
     let mut bids = [0u64; LEVELS];
     let mut asks = [0u64; LEVELS];
@@ -123,10 +132,11 @@ fn carry_out(fd: i32, name: &[u8]) {
         return;
     };
     let mut fills = [0u64; FILLS];
-    let mut tape = io::large_buffer();
+    let mut tape = [0u8; TAPE];
     let mut out = [0u8; OUT];
     run(
-        fd,
+        rt,
+        from,
         name,
         book,
         statistics,
@@ -140,14 +150,11 @@ fn carry_out(fd: i32, name: &[u8]) {
     );
 }
 
-fn main() {
-    let mut name = io::buffer();
-    let source = open_source(&mut name);
-    let fd = source.fd;
+fn main(rt: HostRuntime) {
+    let mut name = [0u8; NAME];
+    let source = open_source(&rt, &mut name);
     let length = source.name;
-    if fd < 0 {
-        return;
+    if let Some(mut from) = source.input {
+        carry_out(&rt, &mut from, &name[..length]);
     }
-    carry_out(fd, &name[..length]);
-    libc::close(fd);
 }

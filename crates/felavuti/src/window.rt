@@ -2,7 +2,7 @@
 ghost use Rattle.std.specs.Prelude.{◌+◌, ◌≤◌, ◌<◌, length};
 ghost use Rattle.felavuti.specs.Windows.{Refilled};
 
-use stream::{move_down, read_behind};
+use stream::{Input, move_down, read_behind};
 use tape::LONGEST;
 
 // More turns than any tape takes, so that the run ends whatever comes in.
@@ -31,7 +31,7 @@ pub fn begun() -> Window
 }
 
 // More of the tape, where too little is at hand for a field.
-pub fn refill(fd: i32, name: &[u8], tape: &mut [u8], w: Window) -> Window
+pub fn refill(rt: &HostRuntime, from: &mut Input, name: &[u8], tape: &mut [u8], w: Window) -> Window
     requires { (w.start ≤ w.end) × (w.end ≤ length tape.old) × (w.base + w.start < 18446744073709551616) }
     ensures { (result.start ≤ result.end) × (result.end ≤ length tape.old) × (result.base ≤ w.base + w.start)
         × Refilled tape.old w.start w.end w.base w.last tape.new result.start result.end result.base result.last }
@@ -45,7 +45,7 @@ pub fn refill(fd: i32, name: &[u8], tape: &mut [u8], w: Window) -> Window
         return w;
     }
     let kept = move_down(tape, start, end);
-    let came = read_behind(fd, name, tape, kept);
+    let came = read_behind(from, &rt.stderr(), name, tape, kept);
     Window {
         start: 0,
         end: kept + came.bytes,

@@ -159,52 +159,53 @@ pub fn same_desk(a: OwnDesk, b: OwnDesk) -> bool {
 }
 
 // A refusal by its number, and whether it changed anything.
-pub fn refused(n: u64, kept: bool) {
-    number(b"Refused ", n);
+pub fn refused(rt: &impl Print, n: u64, kept: bool) {
+    number(rt, b"Refused ", n);
     if kept {
-        put(b", nothing changed\n");
+        put(rt, b", nothing changed\n");
     } else {
-        put(b", CHANGED\n");
+        put(rt, b", CHANGED\n");
     }
 }
 
 // An event; or a refusal.
-pub fn tell_answer(answer: Answer, kept: bool) {
+pub fn tell_answer(rt: &impl Print, answer: Answer, kept: bool) {
     match answer {
-        Answer::Refused(n) => refused(n, kept),
-        Answer::Done(event) => tell::event(event),
+        Answer::Refused(n) => refused(rt, n, kept),
+        Answer::Done(event) => tell::event(rt, event),
     }
 }
 
 // An order or a cancel and its answer; for a refusal, whether everything is as it was.
-pub fn order(d: OwnDesk, room: usize, o: OrderType) -> OwnDesk {
-    tell::order(o);
+pub fn order(rt: &impl Print, d: OwnDesk, room: usize, o: OrderType) -> OwnDesk {
+    tell::order(rt, o);
     let done = script::execute(d, room, o);
     let answer = done.answer;
     let after = done.desk;
     let fills = done.fills;
     tell_answer(
+        rt,
         answer,
         all(same_desk(d, after), is_unwritten(&fills), true, true),
     );
     after
 }
 
-fn tell_deep(deep: Deep, kept: bool) {
+fn tell_deep(rt: &impl Print, deep: Deep, kept: bool) {
     match deep {
-        Deep::Refused(n) => refused(n, kept),
+        Deep::Refused(n) => refused(rt, n, kept),
         Deep::Told(d) => {
-            number(b"asks ", d.asks as u64);
-            line(b", bids ", d.bids as u64);
+            number(rt, b"asks ", d.asks as u64);
+            line(rt, b", bids ", d.bids as u64);
         }
     }
 }
 
 // Depth with so long a buffer; for a refusal, whether that is as it was.
-pub fn depth(d: OwnDesk, room: usize) {
+pub fn depth(rt: &impl Print, d: OwnDesk, room: usize) {
     let shown = script::depth(d, room);
     let deep = shown.deep;
     let levels = shown.levels;
-    line(b"depth, numbers lent ", room as u64);
-    tell_deep(deep, is_unwritten(&levels));
+    line(rt, b"depth, numbers lent ", room as u64);
+    tell_deep(rt, deep, is_unwritten(&levels));
 }

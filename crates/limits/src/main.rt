@@ -12,20 +12,20 @@ use tell::{line, number, put};
 // The first of many asks is at the price after this.
 const BASE: u64 = 1000;
 
-fn title(list: u64) {
+fn title(rt: &impl Print, list: u64) {
     match list {
-        0 => put(b"4: orders that rest\n"),
-        1 => put(b"5 and 6: prices of a side, and places for depth\n"),
-        2 => put(b"7: the total of a level\n"),
-        3 => put(b"2: places for fills\n"),
-        _ => put(b"3: sums and volume\n"),
+        0 => put(rt, b"4: orders that rest\n"),
+        1 => put(rt, b"5 and 6: prices of a side, and places for depth\n"),
+        2 => put(rt, b"7: the total of a level\n"),
+        3 => put(rt, b"2: places for fills\n"),
+        _ => put(rt, b"3: sums and volume\n"),
     }
 }
 
-fn tell_book(book: OrderBook) {
-    number(b"resting ", book.resting as u64);
-    number(b", bid prices ", book.bids as u64);
-    line(b", ask prices ", book.asks as u64);
+fn tell_book(rt: &impl Print, book: OrderBook) {
+    number(rt, b"resting ", book.resting as u64);
+    number(rt, b", bid prices ", book.bids as u64);
+    line(rt, b", ask prices ", book.asks as u64);
 }
 
 // Order i of many: an ask at a price of its own, or a bid at 100.
@@ -43,34 +43,34 @@ fn next_desk(d: OwnDesk, o: OrderType) -> OwnDesk {
 }
 
 // The orders 1 to n, of which nothing is told but where the book stands after them.
-fn many(first: OwnDesk, n: u64, apart: bool) -> OwnDesk {
+fn many(rt: &impl Print, first: OwnDesk, n: u64, apart: bool) -> OwnDesk {
     let mut d = first;
     let mut i = 0;
     while i < n {
         i += 1;
         d = next_desk(d, numbered(i, apart));
     }
-    line(b"orders 1 to ", n);
-    tell_book(d.book);
+    line(rt, b"orders 1 to ", n);
+    tell_book(rt, d.book);
     d
 }
 
 // Row i of a list.
-fn row(d: OwnDesk, list: u64, i: u64) -> OwnDesk {
+fn row(rt: &impl Print, d: OwnDesk, list: u64, i: u64) -> OwnDesk {
     let next = next_of(list, i);
     match next {
         Next::Fresh(on) => {
-            title(list);
-            script::tracked(script::fresh(), on)
+            title(rt, list);
+            script::tracked(script::fresh(rt), on)
         }
-        Next::Many(n, apart) => many(d, n, apart),
-        Next::Order(room, o) => kept::order(d, room, o),
+        Next::Many(n, apart) => many(rt, d, n, apart),
+        Next::Order(room, o) => kept::order(rt, d, room, o),
         Next::Tracking(on) => {
-            tell::tracking(on);
+            tell::tracking(rt, on);
             script::tracked(d, on)
         }
         Next::Depth(room) => {
-            kept::depth(d, room);
+            kept::depth(rt, d, room);
             d
         }
         Next::End => d,
@@ -78,11 +78,11 @@ fn row(d: OwnDesk, list: u64, i: u64) -> OwnDesk {
 }
 
 // All rows of all lists, one after another.
-fn main() {
-    let mut d = script::fresh();
+fn main(rt: HostRuntime) {
+    let mut d = script::fresh(&rt);
     let mut n = 0;
     while n < LISTS * LENGTH {
-        d = row(d, n / LENGTH, n % LENGTH);
+        d = row(&rt, d, n / LENGTH, n % LENGTH);
         n += 1;
     }
 }

@@ -1,8 +1,8 @@
 // An order out of standard input: five numbers of 8 bytes, low byte first: kind, side, id, quantity, price (crate script says what they mean).
 ghost use Rattle.std.specs.Prelude.{◌+◌, ◌≤◌};
 
-use libc::{STDERR_FILENO, STDIN_FILENO};
 use script::Step;
+use std::io::Read;
 
 const NUMBER: usize = 8;
 
@@ -25,26 +25,40 @@ enum Bytes {
 }
 
 // What is wrong with order n.
-fn complain(n: u64, what: &[u8]) {
-    io::write_all(STDERR_FILENO, b"replay: order ");
-    io::print_decimal(STDERR_FILENO, n);
-    io::write_all(STDERR_FILENO, what);
+fn complain(err: &impl Print, n: u64, what: &[u8]) {
+    let _ = err.write_all(b"replay: order ");
+    let _ = err.print(n);
+    let _ = err.write_all(what);
+}
+
+// Reads until all bytes are there, the input ends or a read fails; how many came.
+fn read_full(from: &mut impl Read, bytes: &mut [u8; ORDER]) -> usize {
+    let mut done = 0;
+    while done < ORDER {
+        match from.read(&mut bytes[done..]) {
+            Ok(0) | Err(_) => break,
+            Ok(n) => done += n,
+        }
+    }
+    done
 }
 
 // Bytes of an order. Where some are missing, one more read tells the end of the input from an error.
-fn read_bytes(bytes: &mut [u8; ORDER]) -> Bytes {
-    let got = io::read_full(STDIN_FILENO, bytes);
+fn read_bytes(from: &mut impl Read, bytes: &mut [u8; ORDER]) -> Bytes {
+    let got = read_full(from, bytes);
     if got == ORDER {
         return Bytes::All;
     }
     let mut beyond = [0u8; 1];
-    let more = libc::read(STDIN_FILENO, &mut beyond);
-    if more < 0 {
-        Bytes::Failed
-    } else if got == 0 && more == 0 {
-        Bytes::Ended
-    } else {
-        Bytes::Cut
+    match from.read(&mut beyond) {
+        Err(_) => Bytes::Failed,
+        Ok(more) => {
+            if got == 0 && more == 0 {
+                Bytes::Ended
+            } else {
+                Bytes::Cut
+            }
+        }
     }
 }
 
@@ -76,30 +90,30 @@ fn step_in(bytes: &[u8; ORDER]) -> Step {
 }
 
 // A step that means something, or none and a line that says so.
-fn known(n: u64, step: Step) -> Reading {
+fn known(err: &impl Print, n: u64, step: Step) -> Reading {
     match step {
         Step::Order(o) => Reading::Came(step),
         Step::Tracking(on) => Reading::Came(step),
         Step::Unknown => {
-            complain(n, b": no such kind or side\n");
+            complain(err, n, b": no such kind or side\n");
             Reading::Ended
         }
     }
 }
 
 // The step with the number n, counted from 1.
-pub fn next_step(n: u64) -> Reading {
+pub fn next_step(from: &mut impl Read, err: &impl Print, n: u64) -> Reading {
     let mut bytes = [0u8; ORDER];
-    let read = read_bytes(&mut bytes);
+    let read = read_bytes(from, &mut bytes);
     match read {
-        Bytes::All => known(n, step_in(&bytes)),
+        Bytes::All => known(err, n, step_in(&bytes)),
         Bytes::Ended => Reading::Ended,
         Bytes::Cut => {
-            complain(n, b" is cut off\n");
+            complain(err, n, b" is cut off\n");
             Reading::Ended
         }
         Bytes::Failed => {
-            complain(n, b" could not be read\n");
+            complain(err, n, b" could not be read\n");
             Reading::Ended
         }
     }

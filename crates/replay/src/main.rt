@@ -14,40 +14,40 @@ use stats::bits::bits_of;
 use stats::{LastTrade, Statistics, Trade};
 use tell::{line, number, put};
 
-fn tell_trade(t: Trade) {
-    number(b"", t.total_qty.0);
-    number(b" ", t.last_price.0);
-    number(b" ", t.last_qty.0);
-    line(b" ", bits_of(t.avg_price));
+fn tell_trade(rt: &impl Print, t: Trade) {
+    number(rt, b"", t.total_qty.0);
+    number(rt, b" ", t.last_price.0);
+    number(rt, b" ", t.last_qty.0);
+    line(rt, b" ", bits_of(t.avg_price));
 }
 
-fn tell_statistics(s: Statistics) {
+fn tell_statistics(rt: &impl Print, s: Statistics) {
     let last = s.last_trade();
-    number(b" volume ", s.traded_volume().0);
-    put(b" last ");
+    number(rt, b" volume ", s.traded_volume().0);
+    put(rt, b" last ");
     match last {
-        LastTrade::Absent => put(b"-\n"),
-        LastTrade::Present(t) => tell_trade(t),
+        LastTrade::Absent => put(rt, b"-\n"),
+        LastTrade::Present(t) => tell_trade(rt, t),
     }
 }
 
-fn figures(d: OwnDesk) {
+fn figures(rt: &impl Print, d: OwnDesk) {
     let quotes = script::quoted(d);
     let ask = quotes.ask;
     let bid = quotes.bid;
     let spread = quotes.spread;
-    tell::quote(b"ask ", b"ask -", ask);
-    tell::quote(b" bid ", b" bid -", bid);
-    tell::quote(b" spread ", b" spread -", spread);
-    tell_statistics(d.statistics);
+    tell::quote(rt, b"ask ", b"ask -", ask);
+    tell::quote(rt, b" bid ", b" bid -", bid);
+    tell::quote(rt, b" spread ", b" spread -", spread);
+    tell_statistics(rt, d.statistics);
 }
 
 // A step carried out and its answer told.
-fn carry_out(d: OwnDesk, step: Step) -> OwnDesk {
+fn carry_out(rt: &impl Print, d: OwnDesk, step: Step) -> OwnDesk {
     match step {
-        Step::Order(o) => script::order(d, FILLS, o),
+        Step::Order(o) => script::order(rt, d, FILLS, o),
         Step::Tracking(on) => {
-            tell::tracking(on);
+            tell::tracking(rt, on);
             script::tracked(d, on)
         }
         Step::Unknown => d,
@@ -55,15 +55,17 @@ fn carry_out(d: OwnDesk, step: Step) -> OwnDesk {
 }
 
 // The orders, one after another, to the end of the input. They are counted, so that the run ends whatever comes in.
-fn main() {
-    let mut d = script::fresh();
+fn main(rt: HostRuntime) {
+    let mut d = script::fresh(&rt);
+    let mut stdin = rt.stdin();
+    let err = rt.stderr();
     let mut n = 0;
     while n < u64::MAX {
         n += 1;
-        let Reading::Came(step) = next_step(n) else {
+        let Reading::Came(step) = next_step(&mut stdin, &err, n) else {
             return;
         };
-        d = carry_out(d, step);
-        figures(d);
+        d = carry_out(&rt, d, step);
+        figures(&rt, d);
     }
 }

@@ -161,10 +161,10 @@ struct Small {
     statistics: Statistics,
 }
 
-fn small_of(opening: Opening) -> Small {
+fn small_of(rt: &impl Print, opening: Opening) -> Small {
     match opening {
         Opening::Refused(n) => {
-            tell::line(b"Refused ", n);
+            tell::line(rt, b"Refused ", n);
             Small {
                 book: OrderBook {
                     resting: 0,
@@ -180,13 +180,13 @@ fn small_of(opening: Opening) -> Small {
 }
 
 // A desk with nothing on it.
-pub fn fresh() -> OwnDesk {
+pub fn fresh(rt: &impl Print) -> OwnDesk {
     let mut records = [0u64; RECORDS];
     let mut bids = [0u64; LEVELS];
     let mut asks = [0u64; LEVELS];
     let mut search = [0u64; PLACES];
     let opening = orderbook::fresh(&mut records, &mut bids, &mut asks, &mut search);
-    let small = small_of(opening);
+    let small = small_of(rt, opening);
     let book = small.book;
     let statistics = small.statistics;
     OwnDesk {
@@ -243,11 +243,11 @@ pub fn execute(d: OwnDesk, room: usize, o: OrderType) -> Done {
 }
 
 // The same, and the answer told with its fills.
-pub fn order(d: OwnDesk, room: usize, o: OrderType) -> OwnDesk {
+pub fn order(rt: &impl Print, d: OwnDesk, room: usize, o: OrderType) -> OwnDesk {
     let done = execute(d, room, o);
     let answer = done.answer;
     let fills = done.fills;
-    tell::answer(answer, &fills);
+    tell::answer(rt, answer, &fills);
     done.desk
 }
 
