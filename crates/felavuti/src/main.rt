@@ -1,6 +1,6 @@
 // The desk on a tape: reads orders from the file that the first argument names, or from standard input where there is none, carries them out on a fresh desk
 // whose tracking is off, and writes what the desk says of each. A tape may be of any length: it goes through a buffer, and what is at hand is answered before
-// more is waited for. What can't be opened, read or written is said on standard error. A program here has no exit status to give.
+// more is waited for. What can't be opened, read or written is said on standard error. A program here gives no exit status.
 #![tactic(auto)]
 
 mod window; // window.rt: what is at hand of the tape

@@ -1,7 +1,7 @@
 // Punches a tape of orders: reads lines of text from the file that the first argument names, or from standard input where there is none, and writes the tape
 // to standard output. A line is an order: `limit ask 1 10 105` (side, id, quantity, price), `market bid 6 12`, `cancel 5`; an empty line, and one whose first
 // letter is `#`, is passed over. A bad line is named on standard error, and the tape ends there; so does what can't be read or written. A text may be of any
-// length, a line of up to 4,096 bytes. A program here has no exit status to give.
+// length, a line of up to 4,096 bytes. A program here gives no exit status.
 #![tactic(auto)]
 
 mod faults; // faults.rt: what is said of a bad line

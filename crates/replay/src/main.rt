@@ -3,7 +3,7 @@
 // After an order's answer comes a line of figures: `ask 103 bid - spread - volume 8 last 8 103 3 4637229..`, the last trade as total, last price, last
 // quantity and bits of the average.
 // Numbers that mean no order, an order cut off, or a read that fails end the run with a line on standard error: nothing is dropped unsaid. A program
-// here has no exit status to give.
+// here gives no exit status.
 #![tactic(auto)]
 
 mod input; // input.rt: an order out of standard input
