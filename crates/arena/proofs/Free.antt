@@ -87,10 +87,7 @@ down_code n (suc i) = go (ltb i n) refl
     go true e = down_once n (suc i)
     go false e = omega (arith, down_none n (suc i) (omega (arith, ltb-false i n e)))
 
-pub freed_start : (rs : List ℕ) → Freed rs 0
-freed_start rs = record { free = refl; none = λ x h. absurd (let z : ⊥ = omega arith in z) }
-
-pub freed_row : (rs : List ℕ) (i : ℕ) → i < length rs / 5 → RecordAt rs (i + 1)
+freed_row : (rs : List ℕ) (i : ℕ) → i < length rs / 5 → RecordAt rs (i + 1)
 freed_row rs i h = record { some = omega arith; inside = omega arith }
 
 pub freed_step : (rs : List ℕ) (i : ℕ) → i < length rs / 5 → Freed rs i → Freed (returned rs (i + 1) i) (i + 1)

@@ -5,7 +5,7 @@ use mathlib.Core.Logic.{◌≢◌}
 use mathlib.Core.Path.{refl, ◌∙◌, ◌≡◌}
 use native.Mathlib.Omega.{arith}
 use lib.Dec.{eqb}
-use lib.ListN.{get_or, length, length-set, set}
+use lib.ListN.{get_or, length, length-set}
 use lib.Seq.{get_or-set_other, get_or-set_same}
 use Rattle.rules.specs.Whole.{one}
 use Rattle.records.specs.Rows.{RecordAt, field, put}
@@ -53,15 +53,6 @@ tie_rs_length rs f (suc p) v = length-set rs ((suc p - 1) * 5 + f) v
 pub tie_lv_length : (lv : List ℕ) (at p v : ℕ) → length (link_lv lv at p v) ≡ length lv
 tie_lv_length lv at zero v = length-set lv at v
 tie_lv_length lv at (suc p) v = refl
-
--- as the code stores it
-pub ties_row : (rs lv : List ℕ) (f at p v : ℕ) → p ≡ 0 → (rs ≡ link_rs rs f p v) × (set lv at v ≡ link_lv lv at p v)
-ties_row rs lv f at zero v e = (refl, refl)
-ties_row rs lv f at (suc p) v e = absurd (let z : ⊥ = omega arith in z)
-
-pub ties_record : (rs lv : List ℕ) (f at p v : ℕ) → p ≢ 0 → (set rs ((p - 1) * 5 + f) v ≡ link_rs rs f p v) × (lv ≡ link_lv lv at p v)
-ties_record rs lv f at zero v e = absurd (e refl)
-ties_record rs lv f at (suc p) v e = (refl, refl)
 
 pub link_frame : (rs ss : List ℕ) (f h : ℕ) (l : List ℕ) → ((x : ℕ) → 1 ≤ times x l → field rs f x ≡ field ss f x) → (x : ℕ) → 1 ≤ one (eqb x 0) + times x l → link rs f h x ≡ link ss f h x
 link_frame rs ss f h l a zero i = refl

@@ -1,5 +1,6 @@
 // The arena: records in the queues of their prices, tied both ways, and the free places.
-// A queue's ends stand in its level's row (price, head, tail) in lent storage; taking a record out needs no walk.
+// A queue's ends stand in its level's row (price, head, tail) in lent storage; taking a record out needs no walk. The ties stay codes of rows: C lends the
+// storage, and there is no heap.
 #![tactic(auto)]
 
 ghost use Rattle.std.specs.Prelude.{◌≡◌, ◌+◌, ◌*◌, ◌<◌, ◌≤◌, length};
@@ -92,11 +93,9 @@ pub fn give_back(records: &mut [u64], free: u64, c: u64)
 pub fn free_all(records: &mut [u64]) -> u64
     ensures { (result ≡ record_count records.old) × Freed records.new result }
 {
-    let n = records.len() / WIDTH;
-    let mut i = 0;
-    while i < n {
-        give_back(records, i as u64, i as u64 + 1);
-        i += 1;
+    let n = (records.len() / WIDTH) as u64;
+    for i in 0..n {
+        give_back(records, i, i + 1);
     }
-    n as u64
+    n
 }

@@ -1,103 +1,55 @@
 // The public calls that make or change a book, at any size. Each demands nothing of its caller: what isn't a whole book of the given size is refused
-// with 1, and a refusal changes nothing. What may be asked of a book is in crate questions.
-// Storage is lent as numbers: records, level rows of bids and asks, places of the search; the small values go in and come back.
+// as not whole, and a refusal changes nothing. What may be asked of a book is in crate questions.
+// Storage is lent as numbers: records, level rows of bids and asks, places of the search; the small values stand beside it in the stored book.
 #![tactic(auto)]
 
-ghost use Rattle.std.specs.Prelude.{[]};
-ghost use Rattle.rules.specs.Rules as rule;
 ghost use Rattle.models.specs.Readings.{call_of};
 ghost use Rattle.rows.specs.Rows.{fill_row, places};
 ghost use Rattle.whole.specs.Whole.{size_of};
-ghost use Rattle.ledger.specs.Stock.{stock};
-ghost use Rattle.calls.specs.Calls.{Executes, Makes};
+ghost use Rattle.ledger.specs.Stock.{stock_of, Relent};
+ghost use Rattle.calls.specs.Calls.{Executes, Cancels, Makes};
 
-use desk::{Answer, Executed};
-use ledger::OrderBook;
-use models::{Id, OrderEvent, OrderType};
+use ledger::StoredBook;
+use models::{Id, OrderEvent, OrderType, Refusal};
 use perform::perform;
 use stats::Statistics;
-use whole::{NOT_WHOLE, Size, is_sized, is_whole};
+use whole::{Size, is_sized, known};
 
-// A fresh book's small values; or a refusal.
-#[derive(Clone, Copy)]
-pub enum Opening {
-    Refused(u64),
-    Made(OrderBook, Statistics),
+// A fresh book over storage of the right lengths, whatever it holds, and fresh statistics.
+pub fn fresh(size: Size, book: &mut StoredBook<'_>) -> Result<Statistics, Refusal>
+    ensures lent { Relent book.old book.new }
+    ensures makes { Makes (size_of size) (stock_of book.old) result (stock_of book.new) }
+{
+    let view = book.view();
+    if !is_sized(size, view) {
+        return Err(Refusal::NotWhole);
+    }
+    book.fresh();
+    Ok(Statistics::fresh())
 }
 
-// A fresh book over storage of the right lengths, whatever it holds.
-pub fn fresh(
-    size: Size,
-    records: &mut [u64],
-    bids: &mut [u64],
-    asks: &mut [u64],
-    search: &mut [u64],
-) -> Opening
-    ensures { Makes (size_of size) records.old bids.old asks.old search.old result
-        records.new bids.new asks.new search.new }
+// The order found under the id leaves, if there is one. Statistics have no part in it.
+pub fn cancel(size: Size, book: &mut StoredBook<'_>, id: Id) -> Result<OrderEvent, Refusal>
+    ensures lent { Relent book.old book.new }
+    ensures cancels { Cancels (size_of size) id.0 (stock_of book.old) result (stock_of book.new) }
 {
-    if !is_sized(size, records, bids, asks, search) {
-        return Opening::Refused(NOT_WHOLE);
-    }
-    let book = ledger::fresh(records, bids, asks, search);
-    let statistics = Statistics::fresh();
-    Opening::Made(book, statistics)
-}
-
-// The order found under the id leaves, if there is one.
-pub fn cancel(
-    size: Size,
-    book: OrderBook,
-    statistics: Statistics,
-    records: &mut [u64],
-    bids: &mut [u64],
-    asks: &mut [u64],
-    search: &mut [u64],
-    id: Id,
-) -> Executed
-    ensures { Executes (size_of size) (rule.cancel id.0)
-        (stock book records.old bids.old asks.old search.old) statistics []
-        result.answer (stock result.book records.new bids.new asks.new search.new) result.statistics [] }
-{
-    if !is_whole(size, book, records, bids, asks, search) {
-        return Executed {
-            answer: Answer::Refused(NOT_WHOLE),
-            book,
-            statistics,
-        };
-    }
-    let after = desk::withdraw(records, bids, asks, search, book, id);
-    Executed {
-        answer: Answer::Done(OrderEvent::Canceled { id }),
-        book: after,
-        statistics,
-    }
+    known(size, book.view())?;
+    desk::withdraw(book, id);
+    Ok(OrderEvent::Canceled { id })
 }
 
 // An order or a cancel.
 pub fn execute(
     size: Size,
-    book: OrderBook,
-    statistics: Statistics,
-    records: &mut [u64],
-    bids: &mut [u64],
-    asks: &mut [u64],
-    search: &mut [u64],
+    book: &mut StoredBook<'_>,
+    statistics: &mut Statistics,
     fills: &mut [u64],
     order: OrderType,
-) -> Executed
-    ensures { Executes (size_of size) (call_of (places fill_row fills.old) order)
-        (stock book records.old bids.old asks.old search.old) statistics fills.old
-        result.answer (stock result.book records.new bids.new asks.new search.new) result.statistics fills.new }
+) -> Result<OrderEvent, Refusal>
+    ensures lent { Relent book.old book.new }
+    ensures executes { Executes (size_of size) (call_of (places fill_row fills.old) order)
+        (stock_of book.old) statistics.old fills.old result (stock_of book.new) statistics.new fills.new }
 {
-    if !is_whole(size, book, records, bids, asks, search) {
-        return Executed {
-            answer: Answer::Refused(NOT_WHOLE),
-            book,
-            statistics,
-        };
-    }
-    perform(
-        size, book, statistics, records, bids, asks, search, fills, order,
-    )
+    known(size, book.view())?;
+    perform(size, book, statistics, fills, order)
 }

@@ -1,8 +1,6 @@
 // Books that aren't whole: single numbers of a desk changed.
-use ledger::OrderBook;
-use orderbook::RECORDS;
 use script::OwnDesk;
-use tell::put;
+use std::fmt;
 
 // In a book of three orders on fresh storage: where the quantity and the price of order 1 stand (orders take their places from the last one down, five
 // numbers each), where the search has its place for id 1, and the numbers of the places of orders 1 and 2.
@@ -16,76 +14,60 @@ const PLACE_OF_1: u64 = 1024;
 
 const PLACE_OF_2: u64 = 1023;
 
+// What is changed, and to what number; or nothing.
+#[derive(Clone, Copy)]
+pub enum Harm {
+    Quantity(u64),
+    Price(u64),
+    LowestBid(u64),
+    Home(u64),
+    Resting(usize),
+    Asks(usize),
+    Free(u64),
+    Nothing,
+}
+
 // Seven damages, and last none.
-pub const HARMS: u64 = 8;
+pub const HARMS: [Harm; 8] = [
+    Harm::Quantity(0),
+    Harm::Price(106),
+    Harm::LowestBid(105),
+    Harm::Home(PLACE_OF_2),
+    Harm::Resting(4),
+    Harm::Asks(2),
+    Harm::Free(PLACE_OF_1),
+    Harm::Nothing,
+];
 
-fn with_record(d: OwnDesk, at: usize, v: u64) -> OwnDesk {
-    let mut after = d;
-    if at < RECORDS {
-        after.records[at] = v;
+impl fmt::Display for Harm {
+    fn fmt<W: fmt::Write>(&self, f: &mut fmt::Formatter<W>) -> fmt::Result {
+        match self {
+            Harm::Quantity(n) => write!(f, "a record's quantity {n} for 5"),
+            Harm::Price(n) => write!(f, "a record's price {n} for 105"),
+            Harm::LowestBid(n) => write!(f, "a bid level's price {n} for 100"),
+            Harm::Home(_) => write!(f, "order 2 in the search's place for id 1"),
+            Harm::Resting(n) => write!(f, "{n} said to rest"),
+            Harm::Asks(n) => write!(f, "{n} ask prices said"),
+            Harm::Free(_) => write!(f, "order 1's place said to be free"),
+            Harm::Nothing => write!(f, "no damage"),
+        }
     }
-    after
 }
 
-fn with_lowest_bid(d: OwnDesk, price: u64) -> OwnDesk {
-    let mut after = d;
-    after.bids[0] = price;
-    after
-}
-
-fn with_home(d: OwnDesk, place: u64) -> OwnDesk {
-    let mut after = d;
-    after.search[HOME_OF_1] = place;
-    after
-}
-
-fn with_book(d: OwnDesk, resting: usize, free: u64, asks: usize) -> OwnDesk {
-    let mut after = d;
-    let book = OrderBook {
-        resting,
-        free,
-        bids: 1,
-        asks,
-    };
-    after.book = book;
-    after
-}
-
-// The desk with damage k, told.
-pub fn damaged(rt: &impl Print, d: OwnDesk, k: u64) -> OwnDesk {
-    let book = d.book;
-    match k {
-        0 => {
-            put(rt, b"a record's quantity 0 for 5");
-            with_record(d, QUANTITY_OF_1, 0)
+impl Harm {
+    // A desk of three orders with the damage done.
+    pub fn done_to(self, whole: &OwnDesk) -> OwnDesk {
+        let mut desk = *whole;
+        match self {
+            Harm::Quantity(n) => desk.records[QUANTITY_OF_1] = n,
+            Harm::Price(n) => desk.records[PRICE_OF_1] = n,
+            Harm::LowestBid(n) => desk.bids[0] = n,
+            Harm::Home(n) => desk.search[HOME_OF_1] = n,
+            Harm::Resting(n) => desk.book.resting = n,
+            Harm::Asks(n) => desk.book.asks = n,
+            Harm::Free(n) => desk.book.free = n,
+            Harm::Nothing => {}
         }
-        1 => {
-            put(rt, b"a record's price 106 for 105");
-            with_record(d, PRICE_OF_1, 106)
-        }
-        2 => {
-            put(rt, b"a bid level's price 105 for 100");
-            with_lowest_bid(d, 105)
-        }
-        3 => {
-            put(rt, b"order 2 in the search's place for id 1");
-            with_home(d, PLACE_OF_2)
-        }
-        4 => {
-            put(rt, b"4 said to rest");
-            with_book(d, 4, book.free, 1)
-        }
-        5 => {
-            put(rt, b"2 ask prices said");
-            with_book(d, 3, book.free, 2)
-        }
-        6 => {
-            put(rt, b"order 1's place said to be free");
-            with_book(d, 3, PLACE_OF_1, 1)
-        }
-        _ => {
-            put(rt, b"no damage");
-            d
-        }
+        desk
     }
 }

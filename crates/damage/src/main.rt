@@ -5,61 +5,49 @@
 mod harms; // harms.rt: single numbers of a desk changed
 mod lengths; // lengths.rt: storage of other lengths
 
-use harms::{HARMS, damaged};
-use lengths::LENGTHS;
+use harms::{HARMS, Harm};
 use models::OrderType;
-use script::{FILLS, OwnDesk, Quotes, SHOWN};
-use tell::put;
-
-fn tell_quotes(rt: &impl Print, quotes: Quotes) {
-    let ask = quotes.ask;
-    let bid = quotes.bid;
-    let spread = quotes.spread;
-    put(rt, b":");
-    tell::quote(rt, b" ask ", b" no ask", ask);
-    tell::quote(rt, b" bid ", b" no bid", bid);
-    tell::quote(rt, b" spread ", b" no spread", spread);
-    put(rt, b"\n");
-}
-
-// A market order, a limit order and a cancel in turn.
-fn order_of(k: u64) -> OrderType {
-    match k % 3 {
-        0 => script::buy(4, 1),
-        1 => script::bid(4, 1, 1),
-        _ => script::cancel(3),
-    }
-}
-
-// On a copy with damage k: the three quotes, depth, and an order or a cancel.
-fn attempt(rt: &impl Print, whole: OwnDesk, k: u64) {
-    let d = damaged(rt, whole, k);
-    tell_quotes(rt, script::quoted(d));
-    kept::depth(rt, d, SHOWN);
-    kept::order(rt, d, FILLS, order_of(k));
-}
+use models::Side::{Ask, Bid};
+use script::{FILLS, OwnDesk, SHOWN, cancel, limit, market};
 
 // Asks of 5 and 3 at 105 and a bid of 4 at 100.
 fn three(rt: &impl Print) -> OwnDesk {
-    let first = kept::order(rt, script::fresh(rt), FILLS, script::ask(1, 5, 105));
-    let second = kept::order(rt, first, FILLS, script::ask(2, 3, 105));
-    kept::order(rt, second, FILLS, script::bid(3, 4, 100))
+    let mut desk = OwnDesk::fresh(rt);
+    kept::order(rt, &mut desk, FILLS, limit(Ask, 1, 5, 105));
+    kept::order(rt, &mut desk, FILLS, limit(Ask, 2, 3, 105));
+    kept::order(rt, &mut desk, FILLS, limit(Bid, 3, 4, 100));
+    desk
 }
 
-// Trial k: the damages, then the lengths.
-fn trial(rt: &impl Print, d: OwnDesk, k: u64) {
-    if k < HARMS {
-        attempt(rt, d, k);
-    } else {
-        lengths::attempt(rt, d, k - HARMS);
-    }
+// On a copy with a damage: the three quotes, depth, and an order or a cancel.
+fn attempt(rt: &impl Print, whole: &OwnDesk, harm: Harm, order: OrderType) {
+    let mut desk = harm.done_to(whole);
+    let _ = print!(rt; "{harm}:");
+    desk.quotes(
+        rt,
+        [
+            (" ask ", " no ask"),
+            (" bid ", " no bid"),
+            (" spread ", " no spread"),
+        ],
+    );
+    let _ = println!(rt; "");
+    kept::depth(rt, &desk, SHOWN);
+    kept::order(rt, &mut desk, FILLS, order);
 }
 
+// The damages, with a market order, a limit order and a cancel in turn; then the lengths.
 fn main(rt: HostRuntime) {
-    let d = three(&rt);
-    let mut k = 0;
-    while k < HARMS + LENGTHS {
-        trial(&rt, d, k);
-        k += 1;
+    let whole = three(&rt);
+    let orders = [market(Bid, 4, 1), limit(Bid, 4, 1, 1), cancel(3)];
+    for (harm, order) in HARMS.iter().zip(orders.iter().cycle()) {
+        attempt(&rt, &whole, *harm, *order);
+    }
+    for sizes in lengths::SHORT {
+        lengths::fresh(&rt, sizes);
+        lengths::withdraw(&rt, &whole, sizes);
+    }
+    for sizes in lengths::LONG {
+        lengths::fresh(&rt, sizes);
     }
 }

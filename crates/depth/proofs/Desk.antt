@@ -1,5 +1,5 @@
 -- A desk meets what each question asks of storage; and what its answers say of the rules' book. Assumes nothing.
-use Prim.Native.Nat.{ℕ, ◌+◌, ◌*◌, ◌<◌, ◌≤◌}
+use Prim.Native.Nat.{ℕ}
 use mathlib.Core.Bool.{Bool, not, true}
 use mathlib.Core.List.{List}
 use mathlib.Core.Path.{sym, ◌∙◌, ◌≡◌}
@@ -8,7 +8,6 @@ use lib.ListN.{length}
 use borrow.Author.Tests.{not-true}
 use Rattle.side.specs.Orders.{orders_in}
 use Rattle.rules.specs.Rules.{Side, any_above, ask, bid, levels, most}
-use Rattle.rows.specs.Rows.{level_row, places}
 use Rattle.side.proofs.Stored.{row_of}
 use Rattle.ledger.specs.Desk.{LedgerIn, stored_book, found}
 use Rattle.depth.specs.Sides.{Fitting, Standing}
@@ -22,10 +21,6 @@ module _ {rs bd ak se : List ℕ} {r f nb na : ℕ} (w : LedgerIn rs bd ak se r 
   pub standing_asks : Standing rs ak na
   standing_asks = record { ladder = w.stored.theirs; busy = w.busy_two; rows = λ x i. row_of w.stored x (omega arith) }
 
-  -- the search has places: `look`
-  pub some_place : 0 < length se
-  some_place = omega (arith, w.room)
-
   -- the rule book's levels are as many as the rows
   pub bid_count : length (levels (stored_book rs bd ak se nb na).bids) ≡ nb
   bid_count = levels_count standing_bids bid (found se rs)
@@ -33,14 +28,6 @@ module _ {rs bd ak se : List ℕ} {r f nb na : ℕ} (w : LedgerIn rs bd ak se r 
   pub ask_count : length (levels (stored_book rs bd ak se nb na).asks) ≡ na
   ask_count = levels_count standing_asks ask (found se rs)
 
--- the rows lie within storage: `best` (and `is_new_price` by `rising` of Sides)
-pub rows_within : {rs lv : List ℕ} {n : ℕ} → Standing rs lv n → n * 3 ≤ length lv
-rows_within s = s.ladder.room
-
 -- what `totals_fit` tells, for `put_levels` and `put_depth`
 pub fitting : {rs lv : List ℕ} {n : ℕ} {fits : Bool} → ((sd : Side) (fnd : ℕ → Bool) → fits ≡ not (any_above most (levels (orders_in sd rs fnd lv n)))) → fits ≡ true → Fitting rs lv n
 fitting {rs} {lv} {n} h e = record { on = ask; fnd = λ x. true; fits = not-true (any_above most (levels (orders_in ask rs (λ x. true) lv n))) (sym (h ask (λ x. true)) ∙ e) }
-
--- places for the levels of both sides
-pub room_for : (out : List ℕ) (na nb : ℕ) → na + nb ≤ places level_row out → (na + nb) * 2 ≤ length out
-room_for out na nb h = omega arith

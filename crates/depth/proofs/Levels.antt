@@ -8,7 +8,7 @@ use native.Mathlib.Nat.{add-zero}
 use native.Mathlib.Numerals.{add-one}
 use native.Mathlib.Omega.{arith}
 use lib.Dec.{eqb}
-use lib.ListN.{length, length-append}
+use lib.ListN.{length, length-reverse}
 use borrow.Author.Tests.{eq-eqb}
 use Rattle.rules.specs.Rules.{Level, Side, ask, bid, joined, levels}
 use Rattle.rules.proofs.Loops.{joined_new}
@@ -113,10 +113,6 @@ totals_length : (rs : List ℕ) (ws : List Lvl) → length (totals rs ws) ≡ le
 totals_length rs [] = refl
 totals_length rs (w ∷ ws) = ap suc (totals_length rs ws)
 
-reverse_length : (l : List Level) → length (reverse l) ≡ length l
-reverse_length [] = refl
-reverse_length (v ∷ l) = ap length (reverse-cons v l) ∙ omega (arith, length-append (reverse l) (v ∷ []), reverse_length l)
-
 module _ {rs lv : List ℕ} {n : ℕ} (s : Standing rs lv n) (sd : Side) (fnd : ℕ → Bool) where
   -- they are the rules' levels of its orders
   pub levels_in_lem : levels (orders_in sd rs fnd lv n) ≡ ascending sd (totals_in rs lv n)
@@ -139,5 +135,5 @@ module _ {rs lv : List ℕ} {n : ℕ} (s : Standing rs lv n) (sd : Side) (fnd : 
   levels_count = ap length levels_in_lem ∙ (go sd ∙ (totals_length rs (levels_in rs lv n) ∙ s.ladder.count))
     where
       go : (sd : Side) → length (ascending sd (totals_in rs lv n)) ≡ length (totals_in rs lv n)
-      go bid = reverse_length (totals_in rs lv n)
+      go bid = length-reverse (totals_in rs lv n)
       go ask = refl

@@ -9,6 +9,7 @@ use native.Mathlib.Omega.{arith}
 use lib.Dec.{eqb, ltb}
 use lib.ListN.{length}
 use borrow.Author.Tests.{eq-eqb, eqb-true, ltb-false, ltb-true}
+use Rattle.std.proofs.lemmas.Bool.{and_from, true≢false}
 use Rattle.rules.specs.Rules as rule
 use Rattle.rules.specs.Rules.{ask, bid, either}
 use Rattle.rules.specs.Whole.{one}
@@ -53,10 +54,9 @@ module _ (rs : List ℕ) (fnd : ℕ → Bool) (id c : ℕ) (this : (x : ℕ) →
   look_at (x ∷ l) o p q h = go (fnd x) refl (eqb (field rs 0 x) id) refl (look_at l o p q)
     where
       later : (fnd x && eqb (field rs 0 x) id ≡ false) → (t : Bool) → eqb c x ≡ t → 1 ≤ times c l
-      later z true e = absurd (let y : ◌≡◌ {A = Bool} true false = sym (both (ap fnd (sym (eqb-true c x e)) ∙ p) (eq-eqb (field rs 0 x) id (ap (field rs 0) (sym (eqb-true c x e)) ∙ q))) ∙ z in let v : ◌≡◌ {A = ℕ} 0 1 = cc in let w : ⊥ = omega arith in w)
-        where
-          both : fnd x ≡ true → eqb (field rs 0 x) id ≡ true → fnd x && eqb (field rs 0 x) id ≡ true
-          both u v = rw (u, v)
+      later z true e =
+          let x≡c = sym (eqb-true c x e) in
+          absurd (true≢false (sym (and_from (fnd x) (eqb (field rs 0 x) id) (ap fnd x≡c ∙ p) (eq-eqb (field rs 0 x) id (ap (field rs 0) x≡c ∙ q))) ∙ z))
       later z false e = omega (arith, ap one e)
 
       go : (a : Bool) → fnd x ≡ a → (b : Bool) → eqb (field rs 0 x) id ≡ b → (1 ≤ times c l → rule.lookup id (orders rs fnd l) o ≡ some (field rs 2 c, field rs 1 c))

@@ -1,9 +1,10 @@
 -- The prices of a side: the best, and whether one of its orders has a price. Assumes nothing.
 use Prim.Native.Nat.{ℕ, ◌<◌, ◌≤◌}
+use Rattle.std.proofs.Math.Bool.{or-true}
 use mathlib.Core.Bool.{Bool, false, not, true, ◌||◌}
 use mathlib.Core.List.{List, [], ◌∷◌}
 use mathlib.Core.Logic.{◌≢◌, ⊎_elim}
-use mathlib.Core.Option.{none, some}
+use mathlib.Core.Option.{some}
 use mathlib.Core.Path.{ap, refl, sym, ◌∙◌, ◌≡◌}
 use native.Mathlib.Omega.{arith}
 use lib.Dec.{eqb}
@@ -36,10 +37,6 @@ best_row {rs} {lv} {n} sd fnd s h =
     turn_in bid = omega arith
     turn_in ask = omega arith
 
-pub best_none : (sd : Side) (rs : List ℕ) (fnd : ℕ → Bool) (lv : List ℕ) (n : ℕ) → n ≡ 0 → none ≡ best (orders_in sd rs fnd lv n)
-best_none bid rs fnd lv n e = rw e
-best_none ask rs fnd lv n e = rw e
-
 -- ## a price that is new to the side
 module _ (rs : List ℕ) (fnd : ℕ → Bool) (p : ℕ) where
   occupied_at : (l : List ℕ) (x : ℕ) → 1 ≤ times x l → field rs 2 x ≡ p → occupied p (orders rs fnd l) ≡ true
@@ -47,13 +44,9 @@ module _ (rs : List ℕ) (fnd : ℕ → Bool) (p : ℕ) where
   occupied_at [] x i e = absurd (let z : ⊥ = omega arith in z)
   occupied_at (c ∷ l) x i e = go (eqb x c) refl (occupied_at l x)
     where
-      rest : (t : Bool) → t || true ≡ true
-      rest true = refl
-      rest false = refl
-
       go : (b : Bool) → eqb x c ≡ b → (1 ≤ times x l → field rs 2 x ≡ p → occupied p (orders rs fnd l) ≡ true) → eqb p (field rs 2 c) || occupied p (orders rs fnd l) ≡ true
       go true z k = rw (eq-eqb p (field rs 2 c) (sym e ∙ ap (field rs 2) (eqb-true x c z)))
-      go false z k = rw (k (omega (arith, ap one z)) e) (rest (eqb p (field rs 2 c)))
+      go false z k = rw (k (omega (arith, ap one z)) e) (or-true (eqb p (field rs 2 c)))
 
   occupied_none : (l : List ℕ) → ((x : ℕ) → 1 ≤ times x l → p ≢ field rs 2 x) → occupied p (orders rs fnd l) ≡ false
   unfolding occupied

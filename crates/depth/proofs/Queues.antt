@@ -3,11 +3,13 @@ use Prim.Native.Nat.{suc, zero, ℕ, ◌+◌, ◌<◌, ◌≤◌}
 use mathlib.Core.Bool.{Bool, false, true}
 use mathlib.Core.List.{List, [], ◌∷◌}
 use mathlib.Core.Logic.{◌≢◌}
-use mathlib.Core.Path.{ap, refl, ◌∙◌, ◌≡◌}
+use mathlib.Core.Path.{ap, refl, sym, ◌∙◌, ◌≡◌}
 use native.Mathlib.Omega.{arith}
 use lib.Dec.{ltb}
 use lib.ListN.{length}
 use borrow.Author.Tests.{ltb-false, ltb-true}
+use Rattle.std.specs.Prelude.{None, Some}
+use Rattle.rules.specs.Rules.{most}
 use Rattle.records.specs.Rows.{RecordAt, field, record_count}
 use Rattle.arena.specs.Free.{Chain, chain}
 use Rattle.arena.specs.Links.{link}
@@ -16,9 +18,8 @@ use Rattle.arena.specs.Times.{times}
 use Rattle.arena.proofs.Free.{chain_chain}
 use Rattle.arena.proofs.Links.{link_some}
 use Rattle.arena.proofs.Times.{one_self}
-use Rattle.sums.specs.Sums.{capped, plus_of}
-use Rattle.sums.proofs.Capped.{plus_capped}
-use Rattle.sums.specs.declared.Sum.{Sum}
+use Rattle.sums.specs.Sums.{capped}
+use Rattle.sums.proofs.Capped.{capped_large, capped_small}
 use Rattle.depth.specs.Sides.{QueueIn, quantities, queue_in}
 
 chain_length : (m : ℕ) (rs : List ℕ) (c : ℕ) → length (chain m rs c) ≤ m
@@ -61,38 +62,30 @@ pub next : {rs : List ℕ} {c : ℕ} → QueueIn rs c → c ≢ 0 → Next rs c 
 next {rs} {c} q n = next_in c (queue_in rs c) q.ends q.rows (chain_length (record_count rs) rs c) n
 
 -- ## the sum that runs along a queue from h: it stands at `sum`, with the orders from c on to come
-pub record Along (rs : List ℕ) (h : ℕ) (sum : Sum) (c : ℕ) : Type 0 where
-  pub so_far : ℕ
-  pub exact : sum ≡ capped so_far
-  pub whole : so_far + quantities rs (queue_in rs c) ≡ quantities rs (queue_in rs h)
+pub record Along (rs : List ℕ) (h sum c : ℕ) : Type 0 where
+  pub fits : sum ≤ most
+  pub whole : sum + quantities rs (queue_in rs c) ≡ quantities rs (queue_in rs h)
   pub queue : QueueIn rs c
 
-pub along_start : {rs : List ℕ} {h : ℕ} {sum : Sum} → QueueIn rs h → sum ≡ capped 0 → Along rs h sum h
-along_start q e = record { so_far = 0; exact = e; whole = omega arith; queue = q }
-
-module _ {rs : List ℕ} {h : ℕ} {sum : Sum} {c : ℕ} (a : Along rs h sum c) where
-  pub along_row : c ≢ 0 → RecordAt rs c
-  along_row n = (next a.queue n).row
-
+module _ {rs : List ℕ} {h sum c : ℕ} (a : Along rs h sum c) where
   pub along_less : {d : ℕ} → c ≢ 0 → d ≡ field rs 3 c → length (queue_in rs d) < length (queue_in rs c)
   along_less n e = rw (e, (next a.queue n).parts) (omega arith)
 
-  pub along_again : {q d : ℕ} {then one : Sum} → c ≢ 0 → q ≡ field rs 1 c → one ≡ capped q → then ≡ plus_of sum one → d ≡ field rs 3 c → Along rs h then d
-  along_again n u e f v =
-      let s = next a.queue n in
-      let g : quantities rs (queue_in rs c) ≡ field rs 1 c + quantities rs (queue_in rs (field rs 3 c)) = ap (quantities rs) s.parts in
-      rw v (record {
-        so_far = a.so_far + field rs 1 c;
-        exact = f ∙ rw (a.exact, e, u) (plus_capped a.so_far (field rs 1 c));
-        whole = omega (arith, a.whole);
-        queue = s.rest;
-      })
+  -- the first order to come, and those behind it
+  parts : c ≢ 0 → quantities rs (queue_in rs c) ≡ field rs 1 c + quantities rs (queue_in rs (field rs 3 c))
+  parts n = ap (quantities rs) (next a.queue n).parts
 
-  pub along_end : c ≡ 0 → sum ≡ capped (quantities rs (queue_in rs h))
+  pub along_again : {q d then : ℕ} → c ≢ 0 → q ≡ field rs 1 c → (then ≤ most) × (then ≡ sum + q) → d ≡ field rs 3 c → Along rs h then d
+  along_again n u f v = rw v (record { fits = f.0; whole = omega (arith, a.whole, parts n); queue = (next a.queue n).rest })
+
+  pub along_over : {q : ℕ} → c ≢ 0 → q ≡ field rs 1 c → most < sum + q → None ≡ capped (quantities rs (queue_in rs h))
+  along_over n u o = sym (capped_large (quantities rs (queue_in rs h)) (omega (arith, a.whole, parts n)))
+
+  pub along_end : c ≡ 0 → Some sum ≡ capped (quantities rs (queue_in rs h))
   along_end e =
       let g : quantities rs (queue_in rs c) ≡ 0 = ap (λ (x : ℕ). quantities rs (queue_in rs x)) e ∙ none (record_count rs) in
-      let s : a.so_far ≡ quantities rs (queue_in rs h) = omega (arith, a.whole) in
-      a.exact ∙ ap capped s
+      let s : sum ≡ quantities rs (queue_in rs h) = omega (arith, a.whole) in
+      rw (← s) (sym (capped_small sum a.fits))
     where
       none : (m : ℕ) → quantities rs (chain m rs 0) ≡ 0
       none zero = refl

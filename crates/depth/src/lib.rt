@@ -13,60 +13,50 @@ ghost use Rattle.depth.specs.Sides.{Standing, ascending, Fitting, queue_in, Queu
 ghost use Rattle.depth.specs.Answers.{quote_of, Looks};
 
 use arena::{HEAD, ROW};
+use ledger::BookView;
 use models::{BookLevel, Id, Price, Quantity, Side};
 use records::{NEXT, PRICE, QUANTITY, load};
-use rows::put_level;
+use rows::Row;
 use side::visit;
-use sums::{Sum, exact, plus};
 
-// A level is two numbers of the lent buffer.
-const LEVEL: usize = 2;
-
-// The best price of a side, if it has one.
-#[derive(Clone, Copy)]
-pub enum Quote {
-    Absent,
-    Present(Price),
+// An order that rests: its price and quantity.
+#[derive(Clone, Copy, PartialEq, Eq)]
+pub struct Resting {
+    pub price: Price,
+    pub qty: Quantity,
 }
 
-// Price and quantity of the order found under an id, if there is one.
-#[derive(Clone, Copy)]
-pub enum Found {
-    Nothing,
-    At { price: Price, qty: Quantity },
-}
-
-// That, and how many places the search looked at.
+// The order found under an id, if there is one, and how many places the search looked at.
 #[derive(Clone, Copy)]
 pub struct Lookup {
-    pub found: Found,
+    pub found: Option<Resting>,
     pub count: usize,
 }
 
-// The best price of a side: of asks that of the first row, of bids that of the last row in use.
-pub fn best(levels: &[u64], n: usize, side: Side) -> Quote
+// The best price of a side, if it has one: of asks that of the first row, of bids that of the last row in use.
+pub fn best(levels: &[u64], n: usize, side: Side) -> Option<Price>
     requires { n * 3 ≤ length levels.now }
     ensures { (rs : List ℕ) (fnd : ℕ → Bool) → Standing rs levels.now n
         → quote_of result ≡ rule.best (orders_in (side_of side) rs fnd levels.now n) }
 {
     if n == 0 {
-        return Quote::Absent;
+        return None;
     }
-    Quote::Present(Price(levels[visit(side, n, n) * ROW]))
+    Some(Price(levels[visit(side, n, n) * ROW]))
 }
 
-// The quantities of a queue together.
-fn total(records: &[u64], head: u64) -> Sum
+// The quantities of a queue together, if they don't exceed 2^64 - 1.
+fn total(records: &[u64], head: u64) -> Option<u64>
     requires { QueueIn records.now head }
     ensures { result ≡ capped (quantities records.now (queue_in records.now head)) }
 {
-    let mut sum = exact(0);
+    let mut sum = 0u64;
     let mut c = head;
     while c != 0 {
-        sum = plus(sum, exact(load(records, QUANTITY, c)));
+        sum = sum.checked_add(load(records, QUANTITY, c))?;
         c = load(records, NEXT, c);
     }
-    sum
+    Some(sum)
 }
 
 // Whether no level's total exceeds 2^64 - 1.
@@ -75,13 +65,10 @@ pub fn totals_fit(records: &[u64], levels: &[u64], n: usize) -> bool
     ensures { (sd : rule.Side) (fnd : ℕ → Bool)
         → result ≡ not (rule.any_above rule.most (rule.levels (orders_in sd records.now fnd levels.now n))) }
 {
-    let mut k = 0;
-    while k < n {
-        let t = total(records, levels[k * ROW + HEAD]);
-        if t.over {
+    for k in 0..n {
+        if total(records, levels[k * ROW + HEAD]).is_none() {
             return false;
         }
-        k += 1;
     }
     true
 }
@@ -93,33 +80,32 @@ pub fn put_levels(records: &[u64], levels: &[u64], n: usize, out: &mut [u64])
         → out.new
         ≡ written level_row out.old 0 (ascending sd (rule.levels (orders_in sd records.now fnd levels.now n))) }
 {
-    let mut i = 0;
-    while i < n {
+    for i in 0..n {
         let at = i * ROW;
-        let t = total(records, levels[at + HEAD]);
-        put_level(
-            out,
-            i,
-            BookLevel {
-                price: Price(levels[at]),
-                qty: Quantity(t.sum),
-            },
-        );
-        i += 1;
+        let qty = total(records, levels[at + HEAD]).unwrap();
+        let level = BookLevel {
+            price: Price(levels[at]),
+            qty: Quantity(qty),
+        };
+        level.put(out, i);
     }
 }
 
 // The asks from the start of `out` on, and the bids from the first free place after them; both ascending.
-pub fn put_depth(records: &[u64], bids: &[u64], nb: usize, asks: &[u64], na: usize, out: &mut [u64])
-    requires { Standing records.now bids.now nb × Standing records.now asks.now na
-        × Fitting records.now bids.now nb × Fitting records.now asks.now na × ((na + nb) * 2 ≤ length out.old) }
+pub fn put_depth(view: BookView<'_>, out: &mut [u64])
+    requires { Standing view.records.now view.bids.now view.book.bids
+        × Standing view.records.now view.asks.now view.book.asks
+        × Fitting view.records.now view.bids.now view.book.bids
+        × Fitting view.records.now view.asks.now view.book.asks
+        × ((view.book.asks + view.book.bids) * 2 ≤ length out.old) }
     ensures { (fnd : ℕ → Bool) → out.new ≡ written level_row out.old 0
-        (rule.levels (orders_in rule.ask records.now fnd asks.now na)
-        ++ reverse (rule.levels (orders_in rule.bid records.now fnd bids.now nb))) }
+        (rule.levels (orders_in rule.ask view.entry.records.now fnd view.entry.asks.now view.entry.book.asks)
+        ++ reverse (rule.levels (orders_in rule.bid view.entry.records.now fnd view.entry.bids.now view.entry.book.bids))) }
 {
-    put_levels(records, asks, na, out);
-    let past = na * LEVEL;
-    put_levels(records, bids, nb, &mut out[past..]);
+    let na = view.book.asks;
+    put_levels(view.records, view.asks, na, out);
+    let past = na * BookLevel::WIDTH;
+    put_levels(view.records, view.bids, view.book.bids, &mut out[past..]);
 }
 
 // Whether no order of a side has this price.
@@ -129,10 +115,7 @@ pub fn is_new_price(levels: &[u64], n: usize, price: Price) -> bool
         → result ≡ not (rule.occupied price.0 (orders_in sd rs fnd levels.now n)) }
 {
     let k = side::find_row(levels, n, price);
-    if k < n {
-        return levels[k * ROW] != price.0;
-    }
-    true
+    n <= k || levels[k * ROW] != price.0
 }
 
 // The order that the search finds under `id`.
@@ -144,15 +127,12 @@ pub fn look(search: &[u64], records: &[u64], id: Id) -> Lookup
     let c = w.entry;
     let count = w.count;
     if c == 0 {
-        return Lookup {
-            found: Found::Nothing,
-            count,
-        };
+        return Lookup { found: None, count };
     }
     let price = Price(load(records, PRICE, c));
     let qty = Quantity(load(records, QUANTITY, c));
     Lookup {
-        found: Found::At { price, qty },
+        found: Some(Resting { price, qty }),
         count,
     }
 }

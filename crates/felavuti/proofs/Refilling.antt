@@ -3,7 +3,7 @@
 use Prim.Native.Nat.{ℕ, ◌+◌, ◌-◌, ◌≤◌}
 use mathlib.Core.Path.{◌≡◌, sym, ap, ◌∙◌}
 use mathlib.Core.Bool.{Bool, true, false}
-use mathlib.Core.List.{List, [], ◌++◌, append_assoc}
+use mathlib.Core.List.{List, [], ◌++◌, append_assoc, append-nil}
 use native.Mathlib.Omega.{arith}
 use lib.ListN.{length, take, drop, length-drop}
 use lib.Seq.{paste, take-add, take_at, drop_at, drop-drop, drop-append-le, length-take-le}
@@ -32,6 +32,13 @@ pub came_behind : (l m k : List ℕ) (start end kept came : ℕ) → start ≤ e
 came_behind l m k start end kept came h g n e f =
     take-add kept came k
     ∙ ap (λ (x : List ℕ). x ++ take came (drop kept k)) (f ∙ ap (λ (i : ℕ). take i m) n ∙ moved l m start end h g e)
+
+-- the same where none came
+pub kept_alone : (l m k : List ℕ) (start end kept : ℕ) → start ≤ end → end ≤ length l → kept ≡ end - start
+    → m ≡ paste l 0 (drop start l) (end - start) → take kept k ≡ take kept m
+    → take kept k ≡ drop start (take end l) ++ []
+kept_alone l m k start end kept h g n e f =
+    f ∙ ap (λ (i : ℕ). take i m) n ∙ moved l m start end h g e ∙ sym (append-nil (drop start (take end l)))
 
 -- the bytes that came are the tape's next: so what is at hand is a part of the tape again
 pub window_again : (t l l' came rest : List ℕ) (start end base end' : ℕ) (last' : Bool) → start ≤ end → end ≤ length l → Window t base (take end l) false

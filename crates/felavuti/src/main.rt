@@ -5,19 +5,19 @@
 
 mod window; // window.rt: what is at hand of the tape
 
-ghost use Rattle.std.specs.Prelude.{◌≡◌, ◌≤◌, ◌<◌, length};
+ghost use Rattle.std.specs.Prelude.{◌≡◌};
 ghost use Rattle.rules.specs.Rules as rule;
-ghost use Rattle.ledger.specs.Stock.{stock};
-ghost use Rattle.serve.specs.Serve.{keeping, Ready};
+ghost use Rattle.ledger.specs.Stock.{stock_of};
+ghost use Rattle.whole.specs.Whole.{WholeStock};
 
-use calls::Opening;
-use ledger::OrderBook;
+use fields::Output;
+use ledger::{OrderBook, StoredBook};
 use orderbook::{LEVELS, PLACES, RECORDS, SIZE};
 use reel::part;
 use serve::State;
 use stats::Statistics;
-use stream::{Input, open_source, write_out};
-use window::{MOST, Window, begun, refill};
+use stream::{Failed, Source, write_out};
+use window::Window;
 
 // Five numbers for a fill of every order that can rest.
 const FILLS: usize = 5120;
@@ -27,134 +27,74 @@ const TEXT: usize = 80975;
 
 const OUT: usize = 131072;
 
-// The buffer for the tape, and the one for its name: no file has a longer one.
-const TAPE: usize = 65536;
-
+// No file has a longer name.
 const NAME: usize = 4096;
 
-// The turns so far, with one more; there are no more where the tape has ended or was stopped, or something failed.
-fn turns(state: State, well: bool, n: u64) -> u64
-    requires { n < 140737488355328 }
-    ensures { (n < result) × (result ≤ 140737488355328) }
-{
-    if !well {
-        return MOST;
-    }
-    match state {
-        State::Going => n + 1,
-        State::Stopped => MOST,
-        State::Ended => MOST,
-    }
-}
+// More turns than any tape takes, so that the run ends whatever comes in.
+const MOST: u64 = 140737488355328;
 
-// The orders of a tape, one after another, on a desk whose storage is lent.
+// The orders of a tape, one after another, on a whole book.
 fn run(
     rt: &HostRuntime,
-    from: &mut Input,
-    name: &[u8],
-    book: OrderBook,
-    statistics: Statistics,
-    records: &mut [u64],
-    bids: &mut [u64],
-    asks: &mut [u64],
-    search: &mut [u64],
-    fills: &mut [u64],
-    tape: &mut [u8],
-    out: &mut [u8],
-)
-    requires { Ready rule.hall (keeping (stock book records.old bids.old asks.old search.old) statistics fills.old)
-        × (length tape.old ≡ 65536) × (80975 ≤ length out.old) }
+    window: &mut Window<'_>,
+    book: &mut StoredBook<'_>,
+    statistics: &mut Statistics,
+) -> Result<(), Failed>
+    requires { WholeStock rule.hall (stock_of book.old) × (window.old.base ≡ 0) }
 {
-    let mut b = book;
-    let mut s = statistics;
-    let mut w = begun();
-    let mut n = 0;
-    while n < MOST {
-        w = refill(rt, from, name, tape, w);
-        let start = w.start;
-        let end = w.end;
-        let base = w.base;
-        let last = w.last;
-        let failed = w.failed;
+    let mut fills = [0u64; FILLS];
+    let mut out = [0u8; OUT];
+    for n in 0..MOST {
+        window.refill(&rt.stderr())?;
+        let mut output = Output {
+            bytes: &mut out,
+            at: 0,
+        };
         let turn = part(
-            &tape[..end],
-            start,
-            base,
-            last,
+            &window.bytes[..window.end],
+            window.start,
+            window.base,
+            window.last,
             SIZE,
-            b,
-            s,
-            records,
-            bids,
-            asks,
-            search,
-            fills,
-            out,
-            0,
+            book,
+            statistics,
+            &mut fills,
+            &mut output,
             TEXT,
         );
-        b = turn.book;
-        s = turn.statistics;
-        w = Window {
-            start: turn.next,
-            end,
-            base,
-            last,
-            failed,
-        };
-        let state = turn.state;
-        let well = goes_well(
-            failed,
-            write_out(&rt.stdout(), &rt.stderr(), out, turn.behind),
-        );
-        n = turns(state, well, n);
+        window.start = turn.next;
+        let behind = output.at;
+        write_out(&rt.stdout(), &rt.stderr(), &out[..behind])?;
+        match turn.state {
+            State::Going => {}
+            State::Stopped | State::Ended => break,
+        }
     }
+    Ok(())
 }
 
-fn goes_well(failed: bool, written: bool) -> bool {
-    if failed {
-        return false;
-    }
-    written
-}
-
-fn carry_out(rt: &HostRuntime, from: &mut Input, name: &[u8]) {
+// A tape on a fresh desk.
+fn carry_out(rt: &HostRuntime, source: Source<'_>) {
     let mut records = [0u64; RECORDS];
     let mut bids = [0u64; LEVELS];
     let mut asks = [0u64; LEVELS];
     let mut search = [0u64; PLACES];
-    let Opening::Made(book, statistics) = orderbook::fresh(
-        &mut records,
-        &mut bids,
-        &mut asks,
-        &mut search,
-    ) else {
-        return;
+    let mut book = StoredBook {
+        book: OrderBook::default(),
+        records: &mut records,
+        bids: &mut bids,
+        asks: &mut asks,
+        search: &mut search,
     };
-    let mut fills = [0u64; FILLS];
-    let mut tape = [0u8; TAPE];
-    let mut out = [0u8; OUT];
-    run(
-        rt,
-        from,
-        name,
-        book,
-        statistics,
-        &mut records,
-        &mut bids,
-        &mut asks,
-        &mut search,
-        &mut fills,
-        &mut tape,
-        &mut out,
-    );
+    if let Ok(mut statistics) = orderbook::fresh(&mut book) {
+        let mut window = Window::new(source);
+        let _ = run(rt, &mut window, &mut book, &mut statistics);
+    }
 }
 
 fn main(rt: HostRuntime) {
     let mut name = [0u8; NAME];
-    let source = open_source(&rt, &mut name);
-    let length = source.name;
-    if let Some(mut from) = source.input {
-        carry_out(&rt, &mut from, &name[..length]);
+    if let Ok(source) = Source::open(&rt, &mut name) {
+        carry_out(&rt, source);
     }
 }

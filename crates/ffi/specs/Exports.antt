@@ -1,9 +1,13 @@
 -- What each exported call answers and leaves, through the contract of the call of `orderbook` of that name: the numbers lent are read, the call is
 -- carried out, and what it answers is written back where it is accepted. A refusal's number leaves everything lent as it was. Assumes nothing.
-use Rattle.std.specs.Prelude.{ℕ, ◌≤◌, ◌<◌, ◌≡◌, List}
-use Rattle.std.proofs.Math.Option.{Option}
+use Rattle.std.specs.Prelude.{ℕ, ◌≤◌, ◌<◌, ◌≡◌, List, Option, Result}
+use Rattle.std.proofs.Math.Option as maybe
 use Rattle.rules.specs.Rules as rule
+use Rattle.models.specs.declared.BookDepth.{BookDepth}
+use Rattle.models.specs.declared.OrderEvent.{OrderEvent}
 use Rattle.models.specs.declared.OrderType.{OrderType}
+use Rattle.models.specs.declared.Price.{Price}
+use Rattle.models.specs.declared.Refusal.{Refusal}
 use Rattle.models.specs.declared.Side.{Side}
 use Rattle.stats.specs.declared.Statistics.{Statistics}
 use Rattle.models.specs.Readings.{call_of}
@@ -11,11 +15,7 @@ use Rattle.rows.specs.Rows.{fill_row, places}
 use Rattle.ledger.specs.declared.OrderBook.{OrderBook}
 use Rattle.ledger.specs.Stock.{stock}
 use Rattle.whole.specs.Whole.{WholeStorage}
-use Rattle.desk.specs.declared.Answer.{Answer}
-use Rattle.questions.specs.declared.Quoted.{Quoted}
-use Rattle.questions.specs.declared.Deep.{Deep}
-use Rattle.questions.specs.declared.Got.{Got}
-use Rattle.calls.specs.declared.Opening.{Opening}
+use Rattle.depth.specs.declared.Lookup.{Lookup}
 use Rattle.calls.specs.Calls.{Executes, Makes}
 use Rattle.questions.specs.Questions.{Tells, Shows, Finds}
 use Rattle.numbers.specs.Numbers.{book_in, statistics_in}
@@ -24,7 +24,7 @@ use Rattle.numbers.specs.Reports.{side_in, Reported, Quotes, Depths, LookReporte
 -- ---- orders and cancels
 
 pub record Carried (c : rule.Call (Unit {0})) (d rs bd ak se out an : List ℕ) (n : ℕ) (d' rs' bd' ak' se' out' an' : List ℕ) : Type 0 where
-  pub answer : Answer
+  pub answer : Result OrderEvent Refusal
   pub book : OrderBook
   pub statistics : Statistics
   pub executes : Executes rule.hall c (stock (book_in d) rs bd ak se) (statistics_in d) out answer (stock book rs' bd' ak' se') statistics out'
@@ -43,27 +43,28 @@ Ordered o side d rs bd ak se out an n d' rs' bd' ak' se' out' an' =
 
 -- ---- questions
 
-pub record Asked (f : rule.Book (Unit {0}) → Option ℕ) (d rs bd ak se an : List ℕ) (n : ℕ) (an' : List ℕ) : Type 0 where
-  pub answer : Quoted
+pub record Asked (f : rule.Book (Unit {0}) → maybe.Option ℕ) (d rs bd ak se an : List ℕ) (n : ℕ) (an' : List ℕ) : Type 0 where
+  pub answer : Result (Option Price) Refusal
   pub tells : Tells rule.hall f (stock (book_in d) rs bd ak se) answer
   pub reported : Quotes an answer n an'
 
 pub record Deepened (l : ℕ) (d rs bd ak se out an : List ℕ) (n : ℕ) (out' an' : List ℕ) : Type 0 where
-  pub answer : Deep
+  pub answer : Result BookDepth Refusal
   pub shows : Shows rule.hall l (stock (book_in d) rs bd ak se) out answer out'
   pub reported : Depths an answer n an'
 
 pub record Sought (i : ℕ) (d rs bd ak se an : List ℕ) (n : ℕ) (an' : List ℕ) : Type 0 where
-  pub answer : Got
+  pub answer : Result Lookup Refusal
   pub finds : Finds rule.hall i (stock (book_in d) rs bd ak se) answer
   pub reported : LookReported an answer n an'
 
 -- ---- a fresh book
 
 pub record OpenedAs (d rs bd ak se : List ℕ) (n : ℕ) (d' rs' bd' ak' se' : List ℕ) : Type 0 where
-  pub answer : Opening
-  pub makes : Makes rule.hall rs bd ak se answer rs' bd' ak' se'
-  pub reported : Opens d answer n d'
+  pub answer : Result Statistics Refusal
+  pub book : OrderBook
+  pub makes : Makes rule.hall (stock (book_in d) rs bd ak se) answer (stock book rs' bd' ak' se')
+  pub reported : Opens d answer book n d'
 
 -- ---- is it whole?
 

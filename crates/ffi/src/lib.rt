@@ -1,6 +1,7 @@
 // The desk of the base for C and Rust: every public call of `orderbook` as a function that `ffi_c` exports, the check of a whole book at any size, and a
 // tape's orders read and written. A slice passes as a pointer and a length; the twelve numbers of a desk, the four of an answer and the six of a slip as
 // pointers. Each returns 0, or the number of the refusal, in which case nothing lent has changed. include/felavuti.h is the header.
+// What travels together stays apart here, and a refusal is a number: the C interface is these parameters and this result.
 #![tactic(auto)]
 
 ghost use Rattle.std.specs.Prelude.{◌≡◌, [], not, eqb, set};
@@ -9,19 +10,16 @@ ghost use Rattle.models.specs.declared.OrderType.TheVariants.{Market, Limit};
 ghost use Rattle.models.specs.Readings.{call_of};
 ghost use Rattle.rows.specs.Rows.{fill_row, places};
 ghost use Rattle.questions.specs.Questions.{lowest_ask, highest_bid, spread_of};
-ghost use Rattle.numbers.specs.Numbers.{yes};
+ghost use Rattle.ledger.specs.Stock.{stock, stock_in};
+ghost use Rattle.numbers.specs.Numbers.{yes, book_in};
 ghost use Rattle.ffi.specs.Exports.{Carried, Ordered, Asked, Deepened, Sought, OpenedAs, Checked};
 ghost use Rattle.ffi.specs.Tapes.{FieldRead, FieldWritten};
 
-use models::{Id, OrderType, Price, Quantity};
-use numbers::{ANSWER, DESK, TRACKING, outcome};
+use ledger::{BookView, StoredBook};
+use models::{Id, OrderType, Refusal};
+use numbers::{ACCEPTED, ANSWER, DESK, TRACKING};
 use slips::SLIP;
 use whole::Size;
-
-// The larger number of a side, and the refusal of any above it.
-const ASK: u64 = 1;
-
-const NO_SIDE: u64 = 10;
 
 // A fresh book over storage of the right lengths, whatever it holds.
 pub fn felavuti_fresh(
@@ -34,12 +32,20 @@ pub fn felavuti_fresh(
     ensures { OpenedAs desk.old records.old bids.old asks.old search.old result
         desk.new records.new bids.new asks.new search.new }
 {
-    let lent = *desk;
-    let told = orderbook::fresh(records, bids, asks, search);
-    let o = outcome::opened(lent, told);
-    let after = o.desk;
-    *desk = after;
-    o.code
+    let mut book = StoredBook {
+        book: numbers::book_of(*desk),
+        records,
+        bids,
+        asks,
+        search,
+    };
+    match orderbook::fresh(&mut book) {
+        Ok(statistics) => {
+            *desk = numbers::written(book.book, statistics);
+            ACCEPTED
+        }
+        Err(refusal) => u64::from(refusal),
+    }
 }
 
 // An order or a cancel on the numbers lent: read, carried out, and what it answers written back where it is accepted.
@@ -57,17 +63,16 @@ fn execute_lent(
         desk.old records.old bids.old asks.old search.old fills.old answer.old
         result desk.new records.new bids.new asks.new search.new fills.new answer.new }
 {
-    let lent = *desk;
-    let told = *answer;
-    let book = numbers::book_of(lent);
-    let statistics = numbers::statistics_of(lent);
-    let done = orderbook::execute(book, statistics, records, bids, asks, search, fills, order);
-    let o = outcome::executed(lent, told, done);
-    let after = o.desk;
-    let reply = o.answer;
-    *desk = after;
-    *answer = reply;
-    o.code
+    let mut book = StoredBook {
+        book: numbers::book_of(*desk),
+        records,
+        bids,
+        asks,
+        search,
+    };
+    let mut statistics = numbers::statistics_of(*desk);
+    let done = orderbook::execute(&mut book, &mut statistics, fills, order);
+    numbers::reported(done, book.book, statistics, desk, answer)
 }
 
 // A market order.
@@ -87,16 +92,10 @@ pub fn felavuti_market(
         desk.old records.old bids.old asks.old search.old fills.old answer.old
         result desk.new records.new bids.new asks.new search.new fills.new answer.new }
 {
-    if ASK < side {
-        return NO_SIDE;
+    match numbers::order(id, side, qty, None) {
+        Ok(order) => execute_lent(desk, records, bids, asks, search, fills, order, answer),
+        Err(refusal) => u64::from(refusal),
     }
-    let taker = outcome::side_of(side);
-    let order = OrderType::Market {
-        id: Id(id),
-        side: taker,
-        qty: Quantity(qty),
-    };
-    execute_lent(desk, records, bids, asks, search, fills, order, answer)
 }
 
 // A limit order.
@@ -117,17 +116,10 @@ pub fn felavuti_limit(
         desk.old records.old bids.old asks.old search.old fills.old answer.old
         result desk.new records.new bids.new asks.new search.new fills.new answer.new }
 {
-    if ASK < side {
-        return NO_SIDE;
+    match numbers::order(id, side, qty, Some(price)) {
+        Ok(order) => execute_lent(desk, records, bids, asks, search, fills, order, answer),
+        Err(refusal) => u64::from(refusal),
     }
-    let taker = outcome::side_of(side);
-    let order = OrderType::Limit {
-        id: Id(id),
-        side: taker,
-        qty: Quantity(qty),
-        price: Price(price),
-    };
-    execute_lent(desk, records, bids, asks, search, fills, order, answer)
 }
 
 // The order found under the id leaves, if there is one.
@@ -144,17 +136,35 @@ pub fn felavuti_cancel(
         desk.old records.old bids.old asks.old search.old [] answer.old
         result desk.new records.new bids.new asks.new search.new [] answer.new }
 {
-    let lent = *desk;
-    let told = *answer;
-    let book = numbers::book_of(lent);
-    let statistics = numbers::statistics_of(lent);
-    let done = orderbook::cancel(book, statistics, records, bids, asks, search, Id(id));
-    let o = outcome::executed(lent, told, done);
-    let after = o.desk;
-    let reply = o.answer;
-    *desk = after;
-    *answer = reply;
-    o.code
+    let mut book = StoredBook {
+        book: numbers::book_of(*desk),
+        records,
+        bids,
+        asks,
+        search,
+    };
+    let statistics = numbers::statistics_of(*desk);
+    let done = orderbook::cancel(&mut book, Id(id));
+    numbers::reported(done, book.book, statistics, desk, answer)
+}
+
+// The book of the numbers lent, to be read alone.
+fn viewed<'a>(
+    desk: &[u64; DESK],
+    records: &'a [u64],
+    bids: &'a [u64],
+    asks: &'a [u64],
+    search: &'a [u64],
+) -> BookView<'a>
+    ensures { stock_in result ≡ stock (book_in desk.now) records.now bids.now asks.now search.now }
+{
+    BookView {
+        book: numbers::book_of(*desk),
+        records,
+        bids,
+        asks,
+        search,
+    }
 }
 
 // The lowest ask.
@@ -169,13 +179,8 @@ pub fn felavuti_min_ask(
     ensures { Asked lowest_ask desk.now records.now bids.now asks.now search.now
         answer.old result answer.new }
 {
-    let told = *answer;
-    let book = numbers::book_of(*desk);
-    let asked = orderbook::min_ask(book, records, bids, asks, search);
-    let o = outcome::quoted(told, asked);
-    let reply = o.answer;
-    *answer = reply;
-    o.code
+    let view = viewed(desk, records, bids, asks, search);
+    numbers::told(orderbook::min_ask(view), answer)
 }
 
 // The highest bid.
@@ -190,13 +195,8 @@ pub fn felavuti_max_bid(
     ensures { Asked highest_bid desk.now records.now bids.now asks.now search.now
         answer.old result answer.new }
 {
-    let told = *answer;
-    let book = numbers::book_of(*desk);
-    let asked = orderbook::max_bid(book, records, bids, asks, search);
-    let o = outcome::quoted(told, asked);
-    let reply = o.answer;
-    *answer = reply;
-    o.code
+    let view = viewed(desk, records, bids, asks, search);
+    numbers::told(orderbook::max_bid(view), answer)
 }
 
 // The lowest ask less the highest bid, where both are there.
@@ -211,13 +211,8 @@ pub fn felavuti_spread(
     ensures { Asked spread_of desk.now records.now bids.now asks.now search.now
         answer.old result answer.new }
 {
-    let told = *answer;
-    let book = numbers::book_of(*desk);
-    let asked = orderbook::spread(book, records, bids, asks, search);
-    let o = outcome::quoted(told, asked);
-    let reply = o.answer;
-    *answer = reply;
-    o.code
+    let view = viewed(desk, records, bids, asks, search);
+    numbers::told(orderbook::spread(view), answer)
 }
 
 // Every occupied price with its total: asks from the start of `out`, then bids, both ascending.
@@ -234,13 +229,8 @@ pub fn felavuti_depth(
     ensures { Deepened levels desk.now records.now bids.now asks.now search.now
         out.old answer.old result out.new answer.new }
 {
-    let told = *answer;
-    let book = numbers::book_of(*desk);
-    let asked = orderbook::depth(book, records, bids, asks, search, levels, out);
-    let o = outcome::deepened(told, asked);
-    let reply = o.answer;
-    *answer = reply;
-    o.code
+    let view = viewed(desk, records, bids, asks, search);
+    numbers::told(orderbook::depth(view, levels, out), answer)
 }
 
 // The order that the search finds under the id.
@@ -256,13 +246,8 @@ pub fn felavuti_get(
     ensures { Sought id desk.now records.now bids.now asks.now search.now
         answer.old result answer.new }
 {
-    let told = *answer;
-    let book = numbers::book_of(*desk);
-    let asked = orderbook::get(book, records, bids, asks, search, Id(id));
-    let o = outcome::looked(told, asked);
-    let reply = o.answer;
-    *answer = reply;
-    o.code
+    let view = viewed(desk, records, bids, asks, search);
+    numbers::told(orderbook::get(view, Id(id)), answer)
 }
 
 // Whether a stored book is whole, at any size: 0, or 1 where it isn't.
@@ -278,39 +263,43 @@ pub fn felavuti_check(
     ensures { Checked (record { orders = orders; prices = prices })
         desk.now records.now bids.now asks.now search.now result }
 {
-    let book = numbers::book_of(*desk);
-    if whole::is_whole(Size { orders, prices }, book, records, bids, asks, search) {
-        return outcome::ACCEPTED;
+    let view = viewed(desk, records, bids, asks, search);
+    if whole::is_whole(Size { orders, prices }, view) {
+        return ACCEPTED;
     }
-    whole::NOT_WHOLE
+    u64::from(Refusal::NotWhole)
 }
 
 // Switched tracking: no other number changes. Never refused.
 pub fn felavuti_track_stats(desk: &mut [u64; DESK], on: u64) -> u64
     ensures { (result ≡ 0) × (desk.new ≡ set desk.old 4 (yes (not (eqb on 0)))) }
 {
-    desk[TRACKING] = numbers::number_of(on != 0);
-    outcome::ACCEPTED
+    desk[TRACKING] = u64::from(on != 0);
+    ACCEPTED
 }
 
 // What stands at a place of a tape, as a slip.
 pub fn felavuti_read_order(tape: &[u8], at: usize, order: &mut [u64; SLIP]) -> u64
     ensures { FieldRead tape.now at order.old result order.new }
 {
-    let lent = *order;
-    let o = slips::read_slip(tape, at, lent);
-    let after = o.slip;
-    *order = after;
-    o.code
+    match slips::read_slip(tape, at) {
+        Ok(slip) => {
+            *order = slip;
+            ACCEPTED
+        }
+        Err(refusal) => u64::from(refusal),
+    }
 }
 
 // The order of a slip, written at a place of a tape.
 pub fn felavuti_write_order(tape: &mut [u8], at: usize, order: &mut [u64; SLIP]) -> u64
     ensures { FieldWritten tape.old at order.old result tape.new order.new }
 {
-    let lent = *order;
-    let o = slips::write_slip(tape, at, lent);
-    let after = o.slip;
-    *order = after;
-    o.code
+    match slips::write_slip(tape, at, *order) {
+        Ok(slip) => {
+            *order = slip;
+            ACCEPTED
+        }
+        Err(refusal) => u64::from(refusal),
+    }
 }

@@ -1,4 +1,5 @@
 // The exports for C and Rust, as a static library: each calls the function of its name in `ffi` and promises what that does. include/felavuti.h is the header.
+// They stay twins of `ffi`'s: a crate is a library, which the theorems need, or a static library, which the C interface needs.
 #![tactic(auto)]
 
 ghost use Rattle.std.specs.Prelude.{◌≡◌, [], not, eqb, set};

@@ -4,7 +4,9 @@ use native.Mathlib.Omega.{arith}
 use mathlib.Core.Path.{◌≡◌, refl, sym, ap, ◌∙◌, subst}
 use mathlib.Core.Bool.{Bool, true, false, ◌&&◌}
 use mathlib.Core.List.{List, [], ◌∷◌}
-use mathlib.Core.Option.{Option, none, some}
+use mathlib.Core.Logic.{inl, inr, ◌⊎◌, ⊎_elim}
+use mathlib.Core.Option as maybe
+use Rattle.std.specs.Prelude.{Option, Some, None, is_some}
 use lib.Dec.{leb, ltb}
 use lib.ListN.{length}
 use borrow.Author.Tests.{leb-false, lt-leb, ltb-false}
@@ -12,15 +14,17 @@ use Rattle.rules.specs.Rules as rule
 use Rattle.rules.specs.Rules.{Book, Order, Outcome, book, carried, first_of, opposite, outcome, own}
 use Rattle.rules.proofs.Basics.{not_both, own_book}
 use Rattle.rules.proofs.Bounds.{outcome_fewer}
+use Rattle.models.specs.declared.Price.{Price}
 use Rattle.models.specs.declared.OrderEvent.{OrderEvent}
 use Rattle.stats.specs.declared.Statistics.{Statistics}
 use Rattle.stats.specs.declared.Totals.{Totals}
 use Rattle.models.specs.Readings.{event_of, side_of}
 use Rattle.stats.specs.Statistics.{statistics_of, VolumeFits, totals_of}
 use Rattle.rows.specs.Rows.{fill_row, places}
-use Rattle.stats.proofs.Recording.{volume_fits, traded_after}
+use Rattle.stats.proofs.Recording.{volume_fits, traded_after, untraded}
 use Rattle.records.specs.Rows.{record_count}
-use Rattle.ledger.specs.Stock.{Stock}
+use Rattle.ledger.specs.declared.StoredBook.{StoredBook}
+use Rattle.ledger.specs.Stock.{Relent, Stock, stock_of}
 use Rattle.ledger.specs.Desk.{LeavesAs, Tidy, read_book}
 use Rattle.ledger.specs.Doors.{RoomOn, rest_in}
 use Rattle.whole.specs.Whole.{Lengths}
@@ -34,51 +38,66 @@ use Rattle.trade.specs.Trade.{CanTrade, Trades, after_trade}
 use Rattle.order.specs.Decided.{filled, remains, totals_by, passes, decided, event_by}
 use Rattle.order.proofs.Judging.{left_within, totals_are, passes_is, event_is}
 use Rattle.fulfil.specs.Stock.{read_desk}
-use Rattle.fulfil.specs.Fulfils.{no_row, CanSettle, Settles, Accepted, Fulfils}
+use Rattle.fulfil.specs.Fulfils.{no_row, CanSettle, Settles, CanTrack, Tracks, Accepted, Fulfils}
 use Rattle.fulfil.proofs.Carrying.{traded, carried_rests, carried_lapses}
 
 -- ## lengths that stay
 
-pub lengths_stay : {z : rule.Size} {rs bd ak se rs' bd' ak' se' : List ℕ} → length rs' ≡ length rs → length bd' ≡ length bd → length ak' ≡ length ak
-    → length se' ≡ length se
-    → Lengths z rs bd ak se → Lengths z rs' bd' ak' se'
-lengths_stay a b c d l = record { some = l.some; records = a ∙ l.records; bids = b ∙ l.bids; asks = c ∙ l.asks; search = d ∙ l.search }
+-- at any size
+abbrev Lasts : Stock → Stock → Type 0
+Lasts k m = (z : rule.Size) → Lengths z k.records k.bids k.asks k.search → Lengths z m.records m.bids m.asks m.search
 
--- ## the remainder
+pub lengths_last : {a b : StoredBook} → Relent a b → Lasts (stock_of a) (stock_of b)
+lengths_last r z l = record {
+  some = l.some;
+  records = r.records_length ∙ l.records;
+  bids = r.bids_length ∙ l.bids;
+  asks = r.asks_length ∙ l.asks;
+  search = r.search_length ∙ l.search;
+}
 
-module _ (rests : Bool) (t : Taker) (left : ℕ) (k : Stock) where
-  pub settle_idle : rests ≡ false → Tidy k → Settles rests t left (read_book k) k
-  settle_idle e d = record { stands = λ f. absurd (not_both rests f e); lapses = λ _. record { desk = d; book = refl } }
+-- ## the statistics
 
-  pub settle_rests : {k' : Stock} → rests ≡ true
-      → LeavesAs (rest_in (side_of t.side) t.id.0 left t.limit.0 (read_book k)) k' → Settles rests t left (read_book k) k'
-  settle_rests e l = record { stands = λ _. l; lapses = λ g. absurd (not_both rests e g) }
+module _ (t : Taker) (s : Outlook) (st : Statistics) {y : Totals} (e : y ≡ totals_by t s) where
+  pub track_fits : CanTrack t s st → (q : ℕ) → y.quantity ≡ Some q → VolumeFits st q
+  track_fits c q f = volume_fits st c.fills c.small q (ap (λ (v : Totals). v.quantity) (c.totals ∙ sym e) ∙ f)
+
+  module _ (last : Last) where
+    pub tracks_none : y.worth ≡ None ⊎ y.quantity ≡ None → Tracks t s last st st
+    tracks_none o l g m p n =
+        sym (untraded st l m
+        (⊎_elim (λ z. inl (ap (λ (v : Totals). v.worth) (g ∙ sym e) ∙ z)) (λ z. inr (ap (λ (v : Totals). v.quantity) (g ∙ sym e) ∙ z)) o))
+
+    pub tracks : (q w : ℕ) (new : Statistics) → y.quantity ≡ Some q → y.worth ≡ Some w
+        → statistics_of new ≡ rule.traded st.tracking q w last.price.0 last.qty.0 (statistics_of st) → Tracks t s last st new
+    tracks q w new a b h l g m p n =
+        h ∙ traded_after st l m q w last.price.0 last.qty.0 (ap (λ (v : Totals). v.quantity) (g ∙ sym e) ∙ a) (ap (λ (v : Totals). v.worth) (g ∙ sym e) ∙ b) p n
 
 -- ## what no refusal says
 
-module _ (n : ℕ) (t : Taker) (s : Outlook) (st : Statistics) (r f c : Bool) (no : decided n t s st r f c ≡ none) where
+module _ (n : ℕ) (t : Taker) (s : Outlook) (st : Statistics) (at : Option Price) (f c : Bool) (no : decided n t s st at f c ≡ maybe.none) where
   pub record Fine : Type 0 where
     pub room : s.fills ≤ n
     pub sum : passes t s st ≡ false
-    pub place : r ≡ true → f ≡ false
-    pub row : r ≡ true → c ≡ false
+    pub place : is_some at ≡ true → f ≡ false
+    pub row : is_some at ≡ true → c ≡ false
 
   pub fine : Fine
   unfolding decided first_of
-  fine = go (ltb n s.fills) refl (passes t s st) refl r refl f refl c refl no
+  fine = go (ltb n s.fills) refl (passes t s st) refl (is_some at) refl f refl c refl no
     where
-      some_none : (k : ℕ) → ◌≡◌ {A = Option ℕ} (some k) none → ⊥
-      some_none k e = let x : ◌≡◌ {A = ℕ} 0 1 = cc in let y : ⊥ = omega arith in y
+      not_none : (k : ℕ) → ◌≡◌ {A = maybe.Option ℕ} (maybe.some k) maybe.none → ⊥
+      not_none k e = let x : ◌≡◌ {A = ℕ} 0 1 = cc in let y : ⊥ = omega arith in y
 
-      go : (a : Bool) → ltb n s.fills ≡ a → (b : Bool) → passes t s st ≡ b → (d : Bool) → r ≡ d → (e : Bool) → f ≡ e → (h : Bool) → c ≡ h
-          → first_of ((2, a) ∷ (3, b) ∷ (4, d && e) ∷ (5, d && h) ∷ []) ≡ none → Fine
-      go true p b q d i e j h k x = absurd (some_none 2 x)
-      go false p true q d i e j h k x = absurd (some_none 3 x)
-      go false p false q true i true j h k x = absurd (some_none 4 x)
-      go false p false q true i false j true k x = absurd (some_none 5 x)
+      go : (a : Bool) → ltb n s.fills ≡ a → (b : Bool) → passes t s st ≡ b → (d : Bool) → is_some at ≡ d → (e : Bool) → f ≡ e → (h : Bool) → c ≡ h
+          → first_of ((2, a) ∷ (3, b) ∷ (4, d && e) ∷ (5, d && h) ∷ []) ≡ maybe.none → Fine
+      go true p b q d i e j h k x = absurd (not_none 2 x)
+      go false p true q d i e j h k x = absurd (not_none 3 x)
+      go false p false q true i true j h k x = absurd (not_none 4 x)
+      go false p false q true i false j true k x = absurd (not_none 5 x)
       go false p false q true i false j false k x = record { room = ltb-false n s.fills p; sum = q; place = λ _. j; row = λ _. k }
       go false p false q false i e j h k x =
-          record { room = ltb-false n s.fills p; sum = q; place = λ y. absurd (not_both r y i); row = λ y. absurd (not_both r y i) }
+          record { room = ltb-false n s.fills p; sum = q; place = λ y. absurd (not_both (is_some at) y i); row = λ y. absurd (not_both (is_some at) y i) }
 
 book_count : (s : rule.Side) (l k : List (Order (Unit {0}))) → length (book s l k).bids + length (book s l k).asks ≡ length l + length k
 book_count rule.bid l k = refl
@@ -94,7 +113,7 @@ book_other rule.ask l k = refl
 
 -- ## an order that nothing speaks against
 
-module _ {t : Taker} {s : Outlook} {rests : Bool} {k : Stock} {st : Statistics} {out : List ℕ} (x : Accepted t s rests k st out) where
+module _ {t : Taker} {s : Outlook} {at : Option Price} {k : Stock} {st : Statistics} {out : List ℕ} (x : Accepted t s at k st out) where
   abbrev n : ℕ
   n = places fill_row out
 
@@ -107,14 +126,11 @@ module _ {t : Taker} {s : Outlook} {rests : Bool} {k : Stock} {st : Statistics} 
   abbrev o : Outcome (Unit {0})
   o = outcome u makers
 
-  abbrev p : ℕ
-  p = t.limit.0
-
   abbrev full? : Bool
   full? = leb x.size.orders k.book.resting
 
-  tested : Fine n t s st rests full? x.crowded x.fine
-  tested = fine n t s st rests full? x.crowded x.fine
+  tested : Fine n t s st at full? x.crowded x.fine
+  tested = fine n t s st at full? x.crowded x.fine
 
   told : (room : ℕ) → s ≡ surveyed (outcome (taker_of room t) makers)
   told room = x.foretold room k.search
@@ -134,52 +150,49 @@ module _ {t : Taker} {s : Outlook} {rests : Bool} {k : Stock} {st : Statistics} 
   rest_is : s.left.0 ≡ o.rest
   rest_is = ap (λ (v : Outlook). v.left.0) (told n)
 
-  totals_is : {y : Totals} → y ≡ totals_by t s → y ≡ totals_of o.fills
-  totals_is e = e ∙ (ap (totals_by t) (told n) ∙ sym (totals_are n t makers))
+  totals_is : totals_of o.fills ≡ totals_by t s
+  totals_is = totals_are n t makers ∙ sym (ap (totals_by t) (told n))
 
   no_sum : rule.too_large o.fills (statistics_of st) ≡ false
   no_sum = passes_is n t makers st ∙ (sym (ap (λ (v : Outlook). passes t v st) (told n)) ∙ tested.sum)
 
-  pub traded_asks : {y : Totals} → y ≡ totals_by t s → VolumeFits st y.quantity.sum
-  traded_asks e = subst (λ (v : Totals). VolumeFits st v.quantity.sum) (sym (totals_is e)) (volume_fits st o.fills no_sum)
+  pub track_asks : CanTrack t s st
+  track_asks = record { left = left_asks; fills = o.fills; totals = totals_is; small = no_sum }
 
   -- what the trade leaves
-  module _ {m : Stock} {out' : List ℕ} {last : Last} (tr : Trades t (read_book k) out m out' last)
-      (lr : length m.records ≡ length k.records) (lb : length m.bids ≡ length k.bids)
-      (la : length m.asks ≡ length k.asks) (ls : length m.search ≡ length k.search) where
+  module _ {m : Stock} {out' : List ℕ} {last : Last} (tr : Trades t (read_book k) out m out' last) (lasts : Lasts k m) where
     mid : LeavesAs (after_trade n t (read_book k)) m
     mid = tr.book n
 
     mid_lengths : Lengths x.size m.records m.bids m.asks m.search
-    mid_lengths = lengths_stay lr lb la ls x.sound.lengths
+    mid_lengths = lasts x.size x.sound.lengths
 
     mid_own : own (side_of t.side) (read_book m) ≡ own (side_of t.side) (read_book k)
     mid_own =
         ap (own (side_of t.side)) (mid.book ∙ book_other (side_of t.side) o.left (own (side_of t.side) (read_book k)))
         ∙ own_book (side_of t.side) (own (side_of t.side) (read_book k)) o.left
 
-    mid_place : rests ≡ true → m.book.resting < record_count m.records
-    mid_place r =
+    mid_place : (p : Price) → at ≡ Some p → m.book.resting < record_count m.records
+    mid_place p r =
         let b = read_book m in
-        let h : k.book.resting < x.size.orders = leb-false x.size.orders k.book.resting (tested.place r) in
+        let h : k.book.resting < x.size.orders = leb-false x.size.orders k.book.resting (tested.place (ap is_some r)) in
         let c : length b.bids + length b.asks ≡ length o.left + length (own (side_of t.side) (read_book k)) =
         ap (λ (v : Book (Unit {0})). length v.bids + length v.asks) mid.book
         ∙ book_count (met_side t) o.left (own (side_of t.side) (read_book k)) in
         let l : length b.bids + length b.asks < x.size.orders =
         omega (arith, c, outcome_fewer u makers, own_count (side_of t.side) (read_book k), desk_resting x.sound.tidy) in
-        open_place mid.desk x.size p mid_lengths (lt-leb x.size.orders (length b.bids + length b.asks) l)
+        open_place mid.desk x.size p.0 mid_lengths (lt-leb x.size.orders (length b.bids + length b.asks) l)
 
-    mid_row : rests ≡ true → RoomOn (side_of t.side) m p
-    mid_row r =
-        desk_room {k = m} mid.desk x.size (side_of t.side) p mid_lengths
-        (ap (no_row x.size.prices p) mid_own ∙ (sym x.crowded_is ∙ tested.row r))
+    mid_row : (p : Price) → at ≡ Some p → RoomOn (side_of t.side) m p.0
+    mid_row p r =
+        desk_room {k = m} mid.desk x.size (side_of t.side) p.0 mid_lengths
+        (ap (no_row x.size.prices p.0) mid_own ∙ (sym (x.crowded_is p r) ∙ tested.row (ap is_some r)))
 
-    pub settle_asks : CanSettle rests t m
+    pub settle_asks : CanSettle at t m
     settle_asks = record { tidy = mid.desk; place = mid_place; row = mid_row }
 
     -- and what comes of it once the remainder has rested or lapsed, and the statistics have the fills
-    module _ {k' : Stock} (sd : Settles rests t s.left.0 (read_book m) k') {y : Totals} (ey : y ≡ totals_by t s) (new : Statistics)
-        (en : statistics_of new ≡ rule.traded st.tracking y.quantity.sum y.worth.sum last.price.0 last.qty.0 (statistics_of st))
+    module _ {k' : Stock} (sd : Settles at t s.left.0 (read_book m) k') (new : Statistics) (tk : Tracks t s last st new)
         (e : OrderEvent) (ee : event_of e ≡ event_by t s.fills s.left.0 (filled t s)) where
       abbrev dk : rule.Desk (Unit {0})
       dk = read_desk k st
@@ -192,29 +205,26 @@ module _ {t : Taker} {s : Outlook} {rests : Bool} {k : Stock} {st : Statistics} 
         book : read_book k' ≡ (carried dk u).desk.book
 
       ends : Ends
-      ends = go rests refl
+      ends = go at refl
         where
-          go : (r : Bool) → rests ≡ r → Ends
-          go true r =
-              let l = sd.stands r in
-              let h : remains t.any o.rest ≡ true = ap (remains t.any) (sym rest_is) ∙ (sym x.rests_is ∙ r) in
+          go : (r : Option Price) → at ≡ r → Ends
+          go (Some p) r =
+              let l = sd.stands p r in
+              let h : remains t.limit o.rest ≡ Some p = ap (remains t.limit) (sym rest_is) ∙ (sym x.at_is ∙ r) in
               record {
                 tidy = l.desk;
                 book = l.book
-                    ∙ (ap (λ (q : ℕ). rest_in (side_of t.side) t.id.0 q p (read_book m)) rest_is
-                    ∙ (ap (rest_in (side_of t.side) t.id.0 o.rest p) mid_traded ∙ sym (carried_rests n t (read_book k) st h)));
+                    ∙ (ap (λ (q : ℕ). rest_in (side_of t.side) t.id.0 q p.0 (read_book m)) rest_is
+                    ∙ (ap (rest_in (side_of t.side) t.id.0 o.rest p.0) mid_traded ∙ sym (carried_rests n t (read_book k) st p h)));
               }
-          go false r =
+          go None r =
               let l = sd.lapses r in
-              let h : remains t.any o.rest ≡ false = ap (remains t.any) (sym rest_is) ∙ (sym x.rests_is ∙ r) in
+              let h : remains t.limit o.rest ≡ None = ap (remains t.limit) (sym rest_is) ∙ (sym x.at_is ∙ r) in
               record { tidy = l.desk; book = l.book ∙ (mid_traded ∙ sym (carried_lapses n t (read_book k) st h)) }
 
       stats_is : statistics_of new ≡ (carried dk u).desk.stats
       unfolding carried
-      stats_is =
-          en ∙ (ap (λ (v : Totals). rule.traded st.tracking v.quantity.sum v.worth.sum last.price.0 last.qty.0 (statistics_of st))
-          (totals_is ey)
-          ∙ traded_after st o.fills no_sum last.price.0 last.qty.0 (sym (tr.price n)) (sym (tr.quantity n)))
+      stats_is = tk o.fills totals_is no_sum (sym (tr.price n)) (sym (tr.quantity n))
 
       answer_is : (carried dk u).answer ≡ rule.done (event_of e) o.fills
       unfolding carried

@@ -1,10 +1,12 @@
 -- What an order that is carried out asks of the stored book, and what it comes to by the rules. Assumes nothing.
-use Rattle.std.specs.Prelude.{ℕ, ◌<◌, ◌≡◌, Bool, true, false, not, ◌&&◌, List, leb, length}
-use Rattle.std.proofs.Math.Option.{none}
+use Rattle.std.specs.Prelude.{ℕ, ◌<◌, ◌≤◌, ◌≡◌, Bool, false, not, ◌&&◌, List, leb, length, Option, Some, None}
+use Rattle.std.proofs.Math.Option as maybe
 use Rattle.rules.specs.Rules as rule
 use Rattle.models.specs.declared.OrderEvent.{OrderEvent}
 use Rattle.stats.specs.declared.Statistics.{Statistics}
+use Rattle.models.specs.declared.Price.{Price}
 use Rattle.models.specs.Readings.{event_of, side_of}
+use Rattle.stats.specs.Statistics.{statistics_of, totals_of}
 use Rattle.rows.specs.Rows.{fill_row, places, written}
 use Rattle.records.specs.Rows.{record_count}
 use Rattle.ledger.specs.declared.OrderBook.{OrderBook}
@@ -15,7 +17,8 @@ use Rattle.survey.specs.declared.Taker.{Taker}
 use Rattle.survey.specs.declared.Outlook.{Outlook}
 use Rattle.survey.specs.Surveyed.{surveyed}
 use Rattle.survey.specs.Taker.{taker_of}
-use Rattle.order.specs.Decided.{decided, remains}
+use Rattle.matching.specs.declared.Last.{Last}
+use Rattle.order.specs.Decided.{decided, remains, totals_by}
 use Rattle.fulfil.specs.Stock.{Sound, read_desk}
 
 -- ## What is found out before
@@ -31,28 +34,42 @@ no_row n p l = not (rule.occupied p l) && leb n (length (rule.levels l))
 
 -- ## The remainder
 
--- the remainder can rest, if it is to
-pub record CanSettle (rests : Bool) (t : Taker) (k : Stock) : Type 0 where
+-- the remainder can rest at the price `at`, if there is one
+pub record CanSettle (at : Option Price) (t : Taker) (k : Stock) : Type 0 where
   pub tidy : Tidy k
-  pub place : rests ≡ true → k.book.resting < record_count k.records
-  pub row : rests ≡ true → RoomOn (side_of t.side) k t.limit.0
+  pub place : (p : Price) → at ≡ Some p → k.book.resting < record_count k.records
+  pub row : (p : Price) → at ≡ Some p → RoomOn (side_of t.side) k p.0
 
 -- b is the book before: the remainder rests, or nothing changes
-pub record Settles (rests : Bool) (t : Taker) (left : ℕ) (b : rule.Book (Unit {0})) (k : Stock) : Type 0 where
-  pub stands : rests ≡ true → LeavesAs (rest_in (side_of t.side) t.id.0 left t.limit.0 b) k
-  pub lapses : rests ≡ false → LeavesAs b k
+pub record Settles (at : Option Price) (t : Taker) (left : ℕ) (b : rule.Book (Unit {0})) (k : Stock) : Type 0 where
+  pub stands : (p : Price) → at ≡ Some p → LeavesAs (rest_in (side_of t.side) t.id.0 left p.0 b) k
+  pub lapses : at ≡ None → LeavesAs b k
+
+-- ## The statistics
+
+-- the fills that the outlook s tells of are not too large for the statistics
+pub record CanTrack (t : Taker) (s : Outlook) (st : Statistics) : Type 0 where
+  pub left : s.left.0 ≤ t.qty.0
+  pub fills : List (rule.Fill (Unit {0}))
+  pub totals : totals_of fills ≡ totals_by t s
+  pub small : rule.too_large fills (statistics_of st) ≡ false
+
+-- st' is what such fills make of the statistics st
+abbrev pub Tracks : Taker → Outlook → Last → Statistics → Statistics → Type 0
+Tracks t s last st st' = (l : List (rule.Fill (Unit {0}))) → totals_of l ≡ totals_by t s → rule.too_large l (statistics_of st) ≡ false
+    → rule.last_price l ≡ last.price.0 → rule.last_quantity l ≡ last.qty.0 → statistics_of st' ≡ rule.stats_after l (statistics_of st)
 
 -- ## An order that is not refused
 
--- the book is sound at some size, s is what the order would do, and nothing speaks against it
-pub record Accepted (t : Taker) (s : Outlook) (rests : Bool) (k : Stock) (st : Statistics) (out : List ℕ) : Type 0 where
+-- the book is sound at some size, s is what the order would do, a remainder would rest at the price `at` if there is one, and nothing speaks against it
+pub record Accepted (t : Taker) (s : Outlook) (at : Option Price) (k : Stock) (st : Statistics) (out : List ℕ) : Type 0 where
   pub size : rule.Size
   pub crowded : Bool
   pub sound : Sound size k
   pub foretold : Foretells t k.book k.records k.bids k.asks s
-  pub rests_is : rests ≡ remains t.any s.left.0
-  pub crowded_is : crowded ≡ no_row size.prices t.limit.0 (rule.own (side_of t.side) (read_book k))
-  pub fine : decided (places fill_row out) t s st rests (leb size.orders k.book.resting) crowded ≡ none
+  pub at_is : at ≡ remains t.limit s.left.0
+  pub crowded_is : (p : Price) → at ≡ Some p → crowded ≡ no_row size.prices p.0 (rule.own (side_of t.side) (read_book k))
+  pub fine : decided (places fill_row out) t s st at (leb size.orders k.book.resting) crowded ≡ maybe.none
 
 -- it is carried out as the rules say: the event e with its fills, a tidy stock that reads with the statistics as the rules' desk then;
 -- the fills stand in the buffer, and what lies beyond them keeps its value

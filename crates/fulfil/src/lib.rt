@@ -1,80 +1,56 @@
 // An order that nothing speaks against is carried out on a whole book: it trades, its remainder rests or lapses, the statistics get its fills.
 #![tactic(auto)]
 
-ghost use Rattle.ledger.specs.Stock.{stock};
+ghost use Rattle.ledger.specs.Stock.{stock_of, Relent};
 ghost use Rattle.ledger.specs.Desk.{read_book};
-ghost use Rattle.fulfil.specs.Fulfils.{CanSettle, Settles, Accepted, Fulfils};
+ghost use Rattle.fulfil.specs.Fulfils.{CanSettle, Settles, CanTrack, Tracks, Accepted, Fulfils};
 
-use ledger::OrderBook;
-use models::{OrderEvent, Quantity};
-use order::totals;
+use ledger::StoredBook;
+use matching::Last;
+use models::{OrderEvent, Price, Quantity};
 use stats::Statistics;
 use survey::{Outlook, Taker};
 use trade::trade;
 
-// The event of an order that was carried out, with the small values handed back.
-#[derive(Clone, Copy)]
-pub struct Fulfilled {
-    pub event: OrderEvent,
-    pub book: OrderBook,
-    pub statistics: Statistics,
+// What is left of an order rests behind all others at the price `at`, if there is one.
+fn settle(book: &mut StoredBook<'_>, t: Taker, left: Quantity, at: Option<Price>)
+    requires { CanSettle at t (stock_of book.old) }
+    ensures lent { Relent book.old book.new }
+    ensures settles { Settles at t left.0 (read_book (stock_of book.old)) (stock_of book.new) }
+{
+    if let Some(price) = at {
+        book.rest(t.side, t.id, left, price);
+    }
 }
 
-// What is left of an order rests behind all others at its price, if it is to.
-fn settle(
-    records: &mut [u64],
-    bids: &mut [u64],
-    asks: &mut [u64],
-    search: &mut [u64],
-    book: OrderBook,
-    t: Taker,
-    left: Quantity,
-    rests: bool,
-) -> OrderBook
-    requires { CanSettle rests t (stock book records.old bids.old asks.old search.old) }
-    ensures { Settles rests t left.0 (read_book (stock book records.old bids.old asks.old search.old))
-        (stock result records.new bids.new asks.new search.new) }
+// The statistics after the fills of an order that was carried out.
+fn tracked(statistics: Statistics, t: Taker, s: Outlook, last: Last) -> Statistics
+    requires { CanTrack t s statistics }
+    ensures { Tracks t s last statistics result }
 {
-    if !rests {
-        return book;
-    }
-    let side = t.side;
-    let id = t.id;
-    let price = t.limit;
-    ledger::rest(records, bids, asks, search, book, side, id, left, price)
+    let totals = order::totals(t, s);
+    // A sum may still have passed 2^64 - 1 where tracking is off: then nothing is kept of it.
+    let (Some(worth), Some(filled)) = (totals.worth, totals.quantity) else {
+        return statistics;
+    };
+    statistics.traded(Quantity(filled), worth, last.price, last.qty)
 }
 
 // An order that nothing speaks against is carried out.
 pub fn carry(
-    records: &mut [u64],
-    bids: &mut [u64],
-    asks: &mut [u64],
-    search: &mut [u64],
+    book: &mut StoredBook<'_>,
+    statistics: &mut Statistics,
     fills: &mut [u64],
-    book: OrderBook,
-    statistics: Statistics,
     t: Taker,
     s: Outlook,
-    rests: bool,
-) -> Fulfilled
-    requires { Accepted t s rests (stock book records.old bids.old asks.old search.old) statistics fills.old }
-    ensures { Fulfils t (stock book records.old bids.old asks.old search.old)
-        statistics fills.old result.event
-        (stock result.book records.new bids.new asks.new search.new) result.statistics fills.new }
+    at: Option<Price>,
+) -> OrderEvent
+    requires { Accepted t s at (stock_of book.old) statistics.old fills.old }
+    ensures lent { Relent book.old book.new }
+    ensures fulfils { Fulfils t (stock_of book.old) statistics.old fills.old result (stock_of book.new) statistics.new fills.new }
 {
-    let d = trade(records, bids, asks, search, book, t, s.used, fills);
-    let traded = d.book;
-    let left = s.left;
-    let after = settle(records, bids, asks, search, traded, t, left, rests);
-    let x = totals(t, s);
-    let last = d.last;
-    let price = last.price;
-    let qty = last.qty;
-    let new = statistics.traded(Quantity(x.quantity.sum), x.worth.sum, price, qty);
-    let event = order::event(t, s);
-    Fulfilled {
-        event,
-        book: after,
-        statistics: new,
-    }
+    let last = trade(book, t, s.used, fills);
+    settle(book, t, s.left, at);
+    *statistics = tracked(*statistics, t, s, last);
+    order::event(t, s)
 }

@@ -1,7 +1,7 @@
 -- The best order of a side: the first of its best level's queue. Assumes nothing.
 use Prim.Native.Nat.{suc, zero, ℕ, ◌-◌, ◌<◌, ◌≤◌}
 use mathlib.Core.List.{List, [], ◌++◌, ◌∷◌}
-use mathlib.Core.Path.{ap, subst, sym, ◌∙◌, ◌≡◌}
+use mathlib.Core.Path.{ap, sym, ◌∙◌, ◌≡◌}
 use native.Mathlib.Omega.{arith}
 use lib.ListN.{length}
 use Rattle.rules.specs.Rules.{Side, ask, bid}
@@ -14,11 +14,7 @@ use Rattle.side.specs.Levels.{Ladder, Lvl, downs, nth, ups}
 use Rattle.side.specs.Orders.{codes}
 use Rattle.side.specs.Prices.{row_in_turn}
 use Rattle.side.specs.Read.{levels_in}
-use Rattle.models.specs.declared.Side as models
-use Rattle.models.specs.Readings.{side_of}
-use Rattle.ledger.specs.declared.OrderBook.{OrderBook}
 use Rattle.ledger.specs.Desk.{Busy, LedgerIn}
-use Rattle.ledger.specs.Doors.{Fronted}
 
 -- no level of a side is empty
 pub busy_at : (ws : List Lvl) (i : ℕ) → Busy ws → i < length ws → 1 ≤ length (nth ws i).queue
@@ -72,7 +68,3 @@ module _ {rs bd ak se : List ℕ} {r f nb na : ℕ} (w : LedgerIn rs bd ak se r 
 
   pub front_ask : 1 ≤ na → (l : List ℕ) × (codes ask (levels_in rs ak na) ≡ head_of ak 0 ∷ l)
   front_ask h = let e : na - na ≡ 0 = omega arith in rw e at (front_of w.stored.theirs w.busy_two ask h)
-
--- what `front` asks, once its match has told the side
-pub front_at : (b : OrderBook) (bd ak : List ℕ) {x y : models.Side} → x ≡ y → Fronted (side_of x) b bd ak → Fronted (side_of y) b bd ak
-front_at b bd ak e h = subst (λ (v : models.Side). Fronted (side_of v) b bd ak) e h

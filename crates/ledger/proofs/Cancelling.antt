@@ -3,7 +3,7 @@ use Prim.Native.Nat.{ℕ, ◌*◌, ◌+◌, ◌-◌, ◌<◌, ◌≤◌}
 use mathlib.Core.Bool.{Bool, cond, false, not, true, ◌&&◌}
 use mathlib.Core.List.{List, [], ◌∷◌}
 use mathlib.Core.Logic.{◌≢◌, ◌⊎◌, ⊎_elim}
-use mathlib.Core.Path.{ap, refl, sym, ◌∙◌, ◌≡◌}
+use mathlib.Core.Path.{ap, refl, subst, sym, ◌∙◌, ◌≡◌}
 use native.Mathlib.Omega.{arith}
 use lib.Dec.{eqb, ltb}
 use lib.ListN.{get_or, length}
@@ -24,8 +24,9 @@ use Rattle.side.proofs.Leaving.{stands}
 use Rattle.side.proofs.Levels.{nth_times}
 use Rattle.side.proofs.Orders.{codes_times}
 use Rattle.side.proofs.Stored.{at_most_one, row_of}
-use Rattle.ledger.specs.Desk.{LedgerIn, Leaves, stored_book, found}
-use Rattle.ledger.specs.Doors.{ApartAt, On, SideTold, drop_in}
+use Rattle.ledger.specs.Stock.{Stock}
+use Rattle.ledger.specs.Desk.{LeavesAs, LedgerIn, Leaves, Tidy, read_book, stored_book, found}
+use Rattle.ledger.specs.Doors.{ApartAt, ApartIn, On, RestsOn, SideTold, drop_in, dropped}
 use Rattle.ledger.proofs.Best.{busy_at, some_of}
 
 -- of these codes only c may be the one found under id
@@ -144,3 +145,19 @@ module _ {rs bd ak se : List ℕ} {r f nb na : ℕ} (w : LedgerIn rs bd ak se r 
     pub cancel_done : (sd : Side) → On sd c bw aw → {rs' bd' ak' se' : List ℕ} {r' f' nb' na' : ℕ} → Leaves (drop_in sd c rs se bw aw) rs' bd' ak' se' r' f' nb' na'
         → Leaves (only (stays id) (stored_book rs bd ak se nb na)) rs' bd' ak' se' r' f' nb' na'
     cancel_done sd i l = record { desk = l.desk; book = l.book ∙ cancel_drops sd id c (sym e) found_id i }
+
+-- ## As the code asks it: what was looked up in v, which is k as it stands
+module _ {v k : Stock} (e : v ≡ k) (w : Tidy k) (id : ℕ) {c : ℕ} (f : c ≡ entry_for v.search v.records id) where
+  entry : c ≡ entry_for k.search k.records id
+  entry = subst (λ (x : Stock). c ≡ entry_for x.search x.records id) e f
+
+  pub none_leaves : c ≡ 0 → LeavesAs (only (stays id) (read_book k)) k
+  none_leaves z = cancel_none w id (sym entry ∙ z)
+
+  module _ (d : c ≢ 0) where
+    module _ (a : ApartIn k) (sd : Side) (t : SideTold sd v.records v.bids v.book.bids c) where
+      pub told_rests : RestsOn sd c k
+      told_rests = on_told w sd c a (found_rests w id entry d) (subst (λ (x : Stock). SideTold sd x.records x.bids x.book.bids c) e t)
+
+      pub found_leaves : (k' : Stock) → LeavesAs (dropped sd c k) k' → LeavesAs (only (stays id) (read_book k)) k'
+      found_leaves k' l = cancel_done w id entry d sd told_rests l

@@ -4,17 +4,16 @@ use mathlib.Core.List.{List, [], ◌∷◌}
 use mathlib.Core.Path.{ap, sym, ◌≡◌}
 use native.Mathlib.Omega.{arith}
 use lib.ListN.{length}
-use Rattle.rules.specs.Rules.{Book, Side, ask, bid}
+use Rattle.rules.specs.Rules.{Book, ask, bid}
 use Rattle.records.specs.Rows.{record_count}
 use Rattle.arena.specs.Free.{Chain}
 use Rattle.arena.specs.Times.{times}
-use Rattle.arena.proofs.Times.{times_length}
 use Rattle.side.specs.Doors.{RoomFor}
 use Rattle.side.specs.Levels.{Lvl, ups}
 use Rattle.side.specs.Read.{free_in, levels_in}
 use Rattle.side.proofs.Own.{own_free, own_one, own_two}
 use Rattle.ledger.specs.Desk.{LedgerIn, Leaves, Ledger, book_of, stored_book}
-use Rattle.ledger.specs.Doors.{CanJoin, CanQuit, Joins, On, Quits, drop_in, rest_in}
+use Rattle.ledger.specs.Doors.{CanJoin, CanQuit, Joins, Quits, drop_in, rest_in}
 use Rattle.ledger.proofs.Frame.{all_swapped}
 
 -- ## The whole desk
@@ -59,9 +58,6 @@ module _ {rs bd ak se : List ℕ} {r f nb na : ℕ} (w : LedgerIn rs bd ak se r 
     pub rest_ask : {id q p s' f' : ℕ} {rs' ak' se' : List ℕ} → Joins rs ak se na f id q p rs' ak' se' s' f' → Leaves (rest_in ask id q p (stored_book rs bd ak se nb na)) rs' bd ak' se' (r + 1) f' nb s'
     rest_ask j = leaves (all_swapped (j.all (all_swapped with_first))) (λ k. record { bids = j.other (all_swapped with_first) bid k; asks = j.own (all_swapped with_first) ask k })
 
-  pub can_quit_bid : (c : ℕ) → 1 ≤ times c (ups bw) → CanQuit rs bd se nb f c
-  can_quit_bid c i = record { n = record_count rs; ov = ak; t = na; r = r; ws = bw; vs = aw; fr = free_in rs f; all = w; inside = i }
-
   pub can_quit_ask : (c : ℕ) → 1 ≤ times c (ups aw) → CanQuit rs ak se na f c
   can_quit_ask c i = record { n = record_count rs; ov = bd; t = nb; r = r; ws = aw; vs = bw; fr = free_in rs f; all = all_swapped w; inside = i }
 
@@ -70,10 +66,3 @@ module _ {rs bd ak se : List ℕ} {r f nb na : ℕ} (w : LedgerIn rs bd ak se r 
 
   pub drop_ask : {c s' f' : ℕ} {rs' ak' se' : List ℕ} → 1 ≤ times c (ups aw) → Quits rs ak se na f c rs' ak' se' s' f' → Leaves (drop_in ask c rs se bw aw) rs' bd ak' se' (r - 1) f' nb s'
   drop_ask i j = leaves (all_swapped (j.all (all_swapped w) i)) (λ k. record { bids = j.other (all_swapped w) i bid k; asks = j.own (all_swapped w) i ask k })
-
-  pub some_rests : (c : ℕ) → 1 ≤ times c (ups bw) + times c (ups aw) → 1 ≤ r
-  some_rests c i = omega (arith, w.stored.rest, times_length c (ups bw), times_length c (ups aw))
-
-  pub on_rests : (sd : Side) (c : ℕ) → On sd c bw aw → 1 ≤ r
-  on_rests bid c i = some_rests c (omega arith)
-  on_rests ask c i = some_rests c (omega arith)

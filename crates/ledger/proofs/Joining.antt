@@ -111,9 +111,6 @@ module _ {n : ℕ} {rs lv ov se : List ℕ} {s t c r : ℕ} {ws vs : List Lvl} {
 
 module _ {rs lv se : List ℕ} {s c p : ℕ} (h : CanJoin rs lv se s c p) where
   module _ {id q s' f' : ℕ} {rs' lv' : List ℕ} (d : Rests rs lv s c id q p rs' lv' s' f') where
-    pub join_needs : 0 < length se
-    join_needs = omega (arith, h.all.room)
-
     pub joins : {se' : List ℕ} → se' ≡ entering se rs' id c → Joins rs lv se s c id q p rs' lv' se' s' f'
     joins e = rw e (record {
       all = λ {n} {ov} {t} {r} {ws} {vs} {fr} a. rest_all a d;

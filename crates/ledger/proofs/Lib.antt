@@ -1,6 +1,7 @@
 pub mod Lists
 pub mod Frame
 pub mod Joining
+pub mod Lending
 pub mod Quitting
 pub mod Desk
 pub mod Best

@@ -3,86 +3,80 @@
 
 mod lists; // lists.rt: what is tried, in order
 
-use ledger::OrderBook;
-use lists::{LENGTH, LISTS, Next, next_of};
 use models::OrderType;
-use script::{FILLS, OwnDesk};
-use tell::{line, number, put};
+use models::Side::{Ask, Bid};
+use script::{FILLS, OwnDesk, Step, limit};
+
+// A full book but for one order, and a full side but for one price.
+const ORDERS_BUT_ONE: u64 = 1023;
+
+const PRICES_BUT_ONE: u64 = 127;
 
 // The first of many asks is at the price after this.
 const BASE: u64 = 1000;
 
-fn title(rt: &impl Print, list: u64) {
-    match list {
-        0 => put(rt, b"4: orders that rest\n"),
-        1 => put(rt, b"5 and 6: prices of a side, and places for depth\n"),
-        2 => put(rt, b"7: the total of a level\n"),
-        3 => put(rt, b"2: places for fills\n"),
-        _ => put(rt, b"3: sums and volume\n"),
-    }
+// A fresh book for what is tried.
+fn begun(rt: &impl Print, title: &str, tracking: bool) -> OwnDesk {
+    let _ = println!(rt; "{title}");
+    let mut desk = OwnDesk::fresh(rt);
+    desk.track(tracking);
+    desk
 }
 
-fn tell_book(rt: &impl Print, book: OrderBook) {
-    number(rt, b"resting ", book.resting as u64);
-    number(rt, b", bid prices ", book.bids as u64);
-    line(rt, b", ask prices ", book.asks as u64);
+// Order i of many at one price: a bid at 100.
+fn together(i: u64) -> OrderType {
+    limit(Bid, i, 1, 100)
 }
 
-// Order i of many: an ask at a price of its own, or a bid at 100.
-fn numbered(i: u64, apart: bool) -> OrderType {
-    if apart {
-        script::ask(i, 1, BASE + i % BASE)
-    } else {
-        script::bid(i, 1, 100)
-    }
-}
-
-fn next_desk(d: OwnDesk, o: OrderType) -> OwnDesk {
-    let done = script::execute(d, FILLS, o);
-    done.desk
+// Order i of many: an ask at a price of its own.
+fn apart(i: u64) -> OrderType {
+    limit(Ask, i, 1, BASE + i % BASE)
 }
 
 // The orders 1 to n, of which nothing is told but where the book stands after them.
-fn many(rt: &impl Print, first: OwnDesk, n: u64, apart: bool) -> OwnDesk {
-    let mut d = first;
-    let mut i = 0;
-    while i < n {
-        i += 1;
-        d = next_desk(d, numbered(i, apart));
+fn many<F: Fn(u64) -> OrderType>(rt: &impl Print, desk: &mut OwnDesk, n: u64, numbered: F)
+    requires { F.IsAlwaysCallable numbered }
+{
+    for i in 1..=n {
+        let _ = desk.execute(&mut [0; FILLS], numbered(i));
     }
-    line(rt, b"orders 1 to ", n);
-    tell_book(rt, d.book);
-    d
+    let book = desk.book;
+    let _ = println!(rt; "orders 1 to {n}");
+    let _ = println!(rt;
+        "resting {}, bid prices {}, ask prices {}",
+        book.resting, book.bids, book.asks
+    );
 }
 
-// Row i of a list.
-fn row(rt: &impl Print, d: OwnDesk, list: u64, i: u64) -> OwnDesk {
-    let next = next_of(list, i);
-    match next {
-        Next::Fresh(on) => {
-            title(rt, list);
-            script::tracked(script::fresh(rt), on)
+// The steps of a list, one after another.
+fn run(rt: &impl Print, mut desk: OwnDesk, steps: &[Step]) {
+    for step in steps {
+        match *step {
+            Step::Order(room, order) => kept::order(rt, &mut desk, room, order),
+            Step::Tracking(on) => {
+                tell::tracking(rt, on);
+                desk.track(on);
+            }
+            Step::Depth(room) => kept::depth(rt, &desk, room),
         }
-        Next::Many(n, apart) => many(rt, d, n, apart),
-        Next::Order(room, o) => kept::order(rt, d, room, o),
-        Next::Tracking(on) => {
-            tell::tracking(rt, on);
-            script::tracked(d, on)
-        }
-        Next::Depth(room) => {
-            kept::depth(rt, d, room);
-            d
-        }
-        Next::End => d,
     }
 }
 
-// All rows of all lists, one after another.
 fn main(rt: HostRuntime) {
-    let mut d = script::fresh(&rt);
-    let mut n = 0;
-    while n < LISTS * LENGTH {
-        d = row(&rt, d, n / LENGTH, n % LENGTH);
-        n += 1;
-    }
+    let mut orders = begun(&rt, "4: orders that rest", false);
+    many(&rt, &mut orders, ORDERS_BUT_ONE, together);
+    run(&rt, orders, &lists::orders());
+    let mut prices = begun(
+        &rt,
+        "5 and 6: prices of a side, and places for depth",
+        false,
+    );
+    many(&rt, &mut prices, PRICES_BUT_ONE, apart);
+    run(&rt, prices, &lists::prices());
+    let totals = begun(&rt, "7: the total of a level", false);
+    run(&rt, totals, &lists::totals());
+    let room = begun(&rt, "2: places for fills", true);
+    run(&rt, room, &lists::room());
+    let sums = begun(&rt, "3: sums and volume", true);
+    run(&rt, sums, &lists::sums());
 }

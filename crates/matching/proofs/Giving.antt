@@ -1,16 +1,14 @@
--- One maker gives: as the code works it out, and what that makes of the makers to come and of the fills. Assumes nothing.
-use Prim.Native.Nat.{ℕ, ◌+◌, ◌-◌, ◌<◌, ◌≤◌, min}
+-- One maker gives: what that makes of the makers to come and of the fills. Assumes nothing.
+use Prim.Native.Nat.{ℕ, ◌-◌, ◌<◌, ◌≤◌}
 use mathlib.Core.Bool.{Bool, true}
 use mathlib.Core.List.{List, [], ◌∷◌}
 use mathlib.Core.Path.{ap, refl, sym, ◌∙◌, ◌≡◌}
 use native.Mathlib.Omega.{arith}
-use lib.Dec.{leb}
 use lib.ListN.{length}
 use Rattle.rules.specs.Rules.{Fill, Order, last_price, last_quantity, matching}
-use Rattle.records.specs.Rows.{RecordAt, field, put}
+use Rattle.records.specs.Rows.{RecordAt, field}
 use Rattle.records.proofs.Rows.{field_record}
-use Rattle.models.specs.Readings.{side_of}
-use Rattle.rows.specs.Rows.{Place, fill_row, written}
+use Rattle.rows.specs.Rows.{Place, fill_row}
 use Rattle.rows.proofs.Places.{fill_faithful, written_length}
 use Rattle.arena.specs.Times.{times}
 use Rattle.arena.proofs.Times.{one_self}
@@ -25,16 +23,6 @@ use Rattle.matching.specs.declared.Progress.{Progress}
 use Rattle.matching.specs.Carried.{Gives, fill_at}
 use Rattle.matching.proofs.Lowered.{lowered}
 use Rattle.matching.proofs.Quantities.{Only, only_put}
-
--- the code: q, m, a are the maker's quantity, id and price, g what it gives
-pub gives : (u : Taker) (c : ℕ) (p : Progress) (rs out : List ℕ) {q m a g : ℕ} {rs' out' : List ℕ}
-    → q ≡ field rs 1 c → m ≡ field rs 0 c → a ≡ field rs 2 c → g ≡ min q p.left.0
-    → out' ≡ written fill_row out p.fills (record { taker = u.id.0; maker = m; quantity = g; price = a; side = side_of u.side; whole = leb q p.left.0; tag = tt } ∷ [])
-    → rs' ≡ put rs 1 c (q - g)
-    → Gives u c p rs out rs' out' (record { left = record { 0 = p.left.0 - g }; fills = p.fills + 1; last = record { price = record { 0 = a }; qty = record { 0 = g } } })
-gives u c p rs out e f h i j k =
-    let g = i ∙ ap (λ (x : ℕ). min x p.left.0) e in
-    record { lowered = k ∙ rw (g, e); filled = j ∙ rw (g, e, f, h); progress = rw (g, h) }
 
 -- ## The fills to come
 

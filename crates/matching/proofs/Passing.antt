@@ -255,7 +255,7 @@ module _ (lv : List ℕ) (n : ℕ) (u : Taker) where
 
       pub prices_beyond : meets u (price_of lv i) ≡ false → Done rs₀ out₀ p₀ (ahead rs₀ lv n u n) rs out p
       prices_beyond f = idle_past o.toward o.ready (λ x j.
-          within_worse (side_of u.side) (kind_of u.any u.limit.0) (nth (levels_in rs lv n) i).price (field rs 2 x)
+          within_worse (side_of u.side) (kind_of u.limit) (nth (levels_in rs lv n) i).price (field rs 2 x)
           (rw e (coming_worse (met_side u) o.ready.laid.ladder k x h o.below j)) (rw price_is at f))
 
       pub queue_start : meets u (price_of lv i) ≡ true → Inside rs out p k rs out p (head_of lv i)

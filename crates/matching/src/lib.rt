@@ -2,7 +2,6 @@
 // `records` and `fills` are lent and changed; `levels` has the rows of the side that the order meets, n of them used.
 #![tactic(auto)]
 
-ghost use Rattle.std.specs.Prelude.{◌≡◌, min};
 ghost use Rattle.records.specs.Rows.{RecordAt};
 ghost use Rattle.rows.specs.Rows.{Place, fill_row};
 ghost use Rattle.matching.specs.Carried.{CanCarry, Carries, Gives};
@@ -10,7 +9,7 @@ ghost use Rattle.matching.specs.Carried.{CanCarry, Carries, Gives};
 use arena::{HEAD, ROW};
 use models::{FillMetadata, Id, Price, Quantity};
 use records::{ID, NEXT, PRICE, QUANTITY, load, store};
-use rows::put_fill;
+use rows::Row;
 use side::visit;
 use survey::{Taker, reaches};
 
@@ -29,12 +28,6 @@ pub struct Progress {
     pub last: Last,
 }
 
-fn smaller(a: u64, b: u64) -> u64
-    ensures { result ≡ min a b }
-{
-    if a <= b { a } else { b }
-}
-
 // The maker of code `c` gives what it can: its quantity falls, and the fill is written.
 fn give(records: &mut [u64], c: u64, t: Taker, fills: &mut [u64], p: Progress) -> Progress
     requires { RecordAt records.old c × Place fill_row fills.old p.fills }
@@ -44,30 +37,22 @@ fn give(records: &mut [u64], c: u64, t: Taker, fills: &mut [u64], p: Progress) -
     let maker = Id(load(records, ID, c));
     let price = Price(load(records, PRICE, c));
     let left = p.left.0;
-    let i = p.fills;
-    let given = smaller(quantity, left);
+    let given = quantity.min(left);
     let qty = Quantity(given);
-    let id = t.id;
-    let side = t.side;
-    put_fill(
-        fills,
-        i,
-        FillMetadata {
-            order_1: id,
-            order_2: maker,
-            qty,
-            price,
-            taker_side: side,
-            total_fill: quantity <= left,
-        },
-    );
+    let fill = FillMetadata {
+        order_1: t.id,
+        order_2: maker,
+        qty,
+        price,
+        taker_side: t.side,
+        total_fill: quantity <= left,
+    };
+    fill.put(fills, p.fills);
     let kept = quantity - given;
     store(records, QUANTITY, c, kept);
-    let rest = left - given;
-    let count = i + 1;
     Progress {
-        left: Quantity(rest),
-        fills: count,
+        left: Quantity(left - given),
+        fills: p.fills + 1,
         last: Last { price, qty },
     }
 }
@@ -78,20 +63,20 @@ pub fn carry_out(records: &mut [u64], levels: &[u64], n: usize, t: Taker, fills:
     ensures { Carries t records.old levels.now n fills.old records.new fills.new result }
 {
     let mut p = Progress {
-        left: Quantity(t.qty.0),
+        left: t.qty,
         fills: 0,
         last: Last {
             price: Price(0),
             qty: Quantity(0),
         },
     };
+    if t.qty.0 == 0 {
+        return p.last;
+    }
     let side = t.side;
     let makers = side.opposite();
     let mut k = n;
-    if t.qty.0 == 0 {
-        let none = p.last;
-        return none;
-    }
+    // Stay walks by hand, one within the other and the outer left by its label: document 01 names this form (docs/DECISIONS.md).
     'prices: while 0 < k {
         let at = visit(makers, n, k) * ROW;
         if !reaches(t, Price(levels[at])) {
@@ -108,6 +93,5 @@ pub fn carry_out(records: &mut [u64], levels: &[u64], n: usize, t: Taker, fills:
         }
         k -= 1;
     }
-    let last = p.last;
-    last
+    p.last
 }

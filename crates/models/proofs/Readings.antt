@@ -1,5 +1,6 @@
 -- The readings lose nothing: two models that read alike are the same. So a contract that gives an answer's reading determines the answer. Assumes nothing.
 use mathlib.Core.Path.{◌≡◌, refl, sym, ap, ◌∙◌}
+use Rattle.std.specs.Prelude.{ℕ, [], ◌∷◌, get_or}
 use Rattle.rules.specs.Rules as rule
 use Rattle.models.specs.declared.Side.{Side}
 use Rattle.models.specs.declared.Side.TheVariants.{Bid, Ask}
@@ -7,7 +8,9 @@ use Rattle.models.specs.declared.OrderEvent.{OrderEvent}
 use Rattle.models.specs.declared.OrderEvent.TheVariants.{Unfilled, Placed, Canceled, PartiallyFilled, Filled}
 use Rattle.models.specs.declared.FillMetadata.{FillMetadata}
 use Rattle.models.specs.declared.BookLevel.{BookLevel}
-use Rattle.models.specs.Readings.{side_of, event_of, fill_of, level_of}
+use Rattle.models.specs.declared.Refusal.{Refusal}
+use Rattle.models.specs.declared.Refusal.TheVariants as refusal
+use Rattle.models.specs.Readings.{side_of, event_of, fill_of, level_of, refusal_number}
 
 -- a way back from the readings shows it
 pub same : {A B : Type 0} (f : A → B) (g : B → A) → ((a : A) → g (f a) ≡ a) → (a b : A) → f a ≡ f b → a ≡ b
@@ -70,3 +73,29 @@ level_from v = record { price = record { 0 = v.price }; qty = record { 0 = v.tot
 pub level_same : (v w : BookLevel) → level_of v ≡ level_of w → v ≡ w
 unfolding level_from
 level_same = same level_of level_from (λ v. refl)
+
+-- the refusals by their numbers, from 0 (which is none's) to 11
+refusal_from : ℕ → Refusal
+refusal_from n =
+    get_or
+    (refusal.NotWhole ∷ refusal.NotWhole ∷ refusal.FillsOutnumberPlaces ∷ refusal.SumTooLarge ∷ refusal.NoOrderLeft ∷ refusal.NoPriceLeft ∷ refusal.LevelsOutnumberPlaces ∷ refusal.TotalTooLarge ∷ refusal.UnknownTag ∷ refusal.WrongLength ∷ refusal.WrongSide ∷ refusal.CutOff ∷ [])
+    n
+    refusal.ShortRoom
+
+refusal_back : (r : Refusal) → refusal_from (refusal_number r) ≡ r
+unfolding refusal_from
+refusal_back refusal.NotWhole = refl
+refusal_back refusal.FillsOutnumberPlaces = refl
+refusal_back refusal.SumTooLarge = refl
+refusal_back refusal.NoOrderLeft = refl
+refusal_back refusal.NoPriceLeft = refl
+refusal_back refusal.LevelsOutnumberPlaces = refl
+refusal_back refusal.TotalTooLarge = refl
+refusal_back refusal.UnknownTag = refl
+refusal_back refusal.WrongLength = refl
+refusal_back refusal.WrongSide = refl
+refusal_back refusal.CutOff = refl
+refusal_back refusal.ShortRoom = refl
+
+pub refusal_same : (r s : Refusal) → refusal_number r ≡ refusal_number s → r ≡ s
+refusal_same = same refusal_number refusal_from refusal_back

@@ -4,22 +4,54 @@
 
 ghost use Rattle.std.specs.Prelude.{◌≡◌};
 ghost use Rattle.rules.specs.Rules as rule;
-ghost use Rattle.models.specs.Readings.{side_of};
+ghost use Rattle.models.specs.Readings.{side_of, side_number, IsSideOf, refusal_number};
 
 // A price, a quantity and an id are three kinds of number: one can't be given in another's place.
-#[derive(Clone, Copy)]
+#[derive(Clone, Copy, PartialEq, Eq)]
 pub struct Id(pub u64);
 
-#[derive(Clone, Copy)]
+#[derive(Clone, Copy, PartialEq, Eq)]
 pub struct Quantity(pub u64);
 
-#[derive(Clone, Copy)]
+#[derive(Clone, Copy, PartialEq, Eq)]
 pub struct Price(pub u64);
 
-#[derive(Clone, Copy)]
+#[derive(Clone, Copy, PartialEq, Eq)]
 pub enum Side {
     Bid,
     Ask,
+}
+
+// The numbers of the sides where they pass as numbers: on tapes, to C and in a program's input.
+const BID: u64 = 0;
+
+const ASK: u64 = 1;
+
+// A side's number.
+impl From<Side> for u64 {
+    ghost from_gives = { λ side n. n ≡ side_number side };
+
+    fn from(side: Side) -> u64 {
+        match side {
+            Side::Bid => BID,
+            Side::Ask => ASK,
+        }
+    }
+}
+
+// The side of a number; any above 1 is refused.
+impl TryFrom<u64> for Side {
+    type Error = Refusal;
+
+    ghost try_from_gives = { IsSideOf };
+
+    fn try_from(number: u64) -> Result<Side, Refusal> {
+        match number {
+            BID => Ok(Side::Bid),
+            ASK => Ok(Side::Ask),
+            _ => Err(Refusal::WrongSide),
+        }
+    }
 }
 
 impl Side {
@@ -100,4 +132,43 @@ pub struct BookDepth {
     pub levels: usize,
     pub asks: usize,
     pub bids: usize,
+}
+
+// Why a call is refused. Document 01 numbers the refusals; C and the programs' texts give that number.
+#[derive(Clone, Copy, PartialEq, Eq)]
+pub enum Refusal {
+    NotWhole,
+    FillsOutnumberPlaces,
+    SumTooLarge,
+    NoOrderLeft,
+    NoPriceLeft,
+    LevelsOutnumberPlaces,
+    TotalTooLarge,
+    UnknownTag,
+    WrongLength,
+    WrongSide,
+    CutOff,
+    ShortRoom,
+}
+
+// A refusal's number.
+impl From<Refusal> for u64 {
+    ghost from_gives = { λ refusal n. n ≡ refusal_number refusal };
+
+    fn from(refusal: Refusal) -> u64 {
+        match refusal {
+            Refusal::NotWhole => 1,
+            Refusal::FillsOutnumberPlaces => 2,
+            Refusal::SumTooLarge => 3,
+            Refusal::NoOrderLeft => 4,
+            Refusal::NoPriceLeft => 5,
+            Refusal::LevelsOutnumberPlaces => 6,
+            Refusal::TotalTooLarge => 7,
+            Refusal::UnknownTag => 8,
+            Refusal::WrongLength => 9,
+            Refusal::WrongSide => 10,
+            Refusal::CutOff => 11,
+            Refusal::ShortRoom => 19,
+        }
+    }
 }

@@ -1,18 +1,18 @@
-// How the small values and the answers pass as numbers to C and Rust, by value: the twelve numbers of a desk, the four of an answer. `outcome` says what an
-// exported call returns and leaves, by its answer; the exports (crate ffi) lend the storage and call.
+// How the small values and the answers pass as numbers to C and Rust: the twelve numbers of a desk, the four of an answer; and what an exported call
+// returns and leaves, by its answer. The exports (crate ffi) lend the storage and call.
 #![tactic(auto)]
 
-ghost use Rattle.std.specs.Prelude.{◌≡◌};
-ghost use Rattle.numbers.specs.Numbers.{book_in, trade_in, last_in, statistics_in, numbers_of, yes};
+ghost use Rattle.std.specs.Prelude.{◌≡◌, ℕ, List};
+ghost use Rattle.numbers.specs.Numbers.{book_in, trade_in, last_in, statistics_in, numbers_of};
 ghost use Rattle.numbers.specs.Numbers.{event_as_numbers, quote_as_numbers, depth_as_numbers, look_as_numbers};
+ghost use Rattle.numbers.specs.Reports.{Told, Reported, order_in, OrderOf};
 
-use depth::{Found, Lookup, Quote};
+use depth::Lookup;
 use ledger::OrderBook;
-use models::{BookDepth, OrderEvent, Price, Quantity};
-use stats::{LastTrade, Statistics, Trade};
+use models::{BookDepth, Id, OrderEvent, OrderType, Price, Quantity, Refusal, Side};
+use stats::{Statistics, Trade};
 
 pub mod bits; // bits.rt: an average from its bit pattern
-pub mod outcome; // outcome.rt: what a call returns and leaves
 
 // How many numbers a desk and an answer have.
 pub const DESK: usize = 12;
@@ -44,7 +44,7 @@ const LAST_PRICE: usize = 10;
 
 const LAST_QTY: usize = 11;
 
-// The number of each event.
+// The number of each event, for C (include/felavuti.h).
 const UNFILLED: u64 = 0;
 
 const PLACED: u64 = 1;
@@ -55,6 +55,10 @@ const PARTIALLY_FILLED: u64 = 3;
 
 const FILLED: u64 = 4;
 
+// What an accepted call returns.
+pub const ACCEPTED: u64 = 0;
+
+// What the exports pass between `[u64; N]` and other crates' types is passed by functions, since `From` can't be written here: neither side is this crate's.
 pub fn book_of(desk: [u64; DESK]) -> OrderBook
     ensures { result ≡ book_in desk }
 {
@@ -69,129 +73,162 @@ pub fn book_of(desk: [u64; DESK]) -> OrderBook
 fn trade_of(desk: [u64; DESK]) -> Trade
     ensures { result ≡ trade_in desk }
 {
-    let average = bits::of_bits(desk[AVERAGE]);
     Trade {
         total_qty: Quantity(desk[TOTAL]),
-        avg_price: average,
+        avg_price: bits::of_bits(desk[AVERAGE]),
         whole_avg_price: Price(desk[WHOLE_AVERAGE]),
         last_price: Price(desk[LAST_PRICE]),
         last_qty: Quantity(desk[LAST_QTY]),
     }
 }
 
-fn last_of(desk: [u64; DESK]) -> LastTrade
+fn last_of(desk: [u64; DESK]) -> Option<Trade>
     ensures { result ≡ last_in desk }
 {
     if desk[PRESENT] == 0 {
-        return LastTrade::Absent;
+        None
+    } else {
+        Some(trade_of(desk))
     }
-    let t = trade_of(desk);
-    LastTrade::Present(t)
 }
 
 pub fn statistics_of(desk: [u64; DESK]) -> Statistics
     ensures { result ≡ statistics_in desk }
 {
-    let last = last_of(desk);
     Statistics {
         tracking: desk[TRACKING] != 0,
         volume: Quantity(desk[VOLUME]),
-        last,
+        last: last_of(desk),
     }
-}
-
-pub fn number_of(on: bool) -> u64
-    ensures { result ≡ yes on }
-{
-    if on { 1 } else { 0 }
 }
 
 // The twelve numbers.
 pub fn written(book: OrderBook, statistics: Statistics) -> [u64; DESK]
     ensures { result ≡ numbers_of book statistics }
 {
-    let tracking = number_of(statistics.tracking);
-    let volume = statistics.volume.0;
-    let last = statistics.last;
-    match last {
-        LastTrade::Absent => {
-            [
-                book.resting as u64,
-                book.free,
-                book.bids as u64,
-                book.asks as u64,
-                tracking,
-                volume,
-                0,
-                0,
-                0,
-                0,
-                0,
-                0,
-            ]
+    let mut desk = [0; DESK];
+    desk[RESTING] = book.resting as u64;
+    desk[FREE] = book.free;
+    desk[BIDS] = book.bids as u64;
+    desk[ASKS] = book.asks as u64;
+    desk[TRACKING] = u64::from(statistics.tracking);
+    desk[VOLUME] = statistics.volume.0;
+    if let Some(t) = statistics.last {
+        desk[PRESENT] = 1;
+        desk[TOTAL] = t.total_qty.0;
+        desk[AVERAGE] = stats::bits::bits_of(t.avg_price);
+        desk[WHOLE_AVERAGE] = t.whole_avg_price.0;
+        desk[LAST_PRICE] = t.last_price.0;
+        desk[LAST_QTY] = t.last_qty.0;
+    }
+    desk
+}
+
+// What a call answers, in four numbers.
+pub trait InNumbers: Copy {
+    ghost as_numbers: { Self → List ℕ };
+
+    fn numbers(self) -> [u64; ANSWER]
+        ensures { result ≡ as_numbers self };
+}
+
+impl InNumbers for OrderEvent {
+    ghost as_numbers = { event_as_numbers };
+
+    fn numbers(self) -> [u64; ANSWER] {
+        match self {
+            OrderEvent::Unfilled { id } => [UNFILLED, id.0, 0, 0],
+            OrderEvent::Placed { id } => [PLACED, id.0, 0, 0],
+            OrderEvent::Canceled { id } => [CANCELED, id.0, 0, 0],
+            OrderEvent::PartiallyFilled {
+                id,
+                filled_qty,
+                fills,
+            } => [PARTIALLY_FILLED, id.0, filled_qty.0, fills as u64],
+            OrderEvent::Filled {
+                id,
+                filled_qty,
+                fills,
+            } => [FILLED, id.0, filled_qty.0, fills as u64],
         }
-        LastTrade::Present(t) => {
-            let average = stats::bits::bits_of(t.avg_price);
-            [
-                book.resting as u64,
-                book.free,
-                book.bids as u64,
-                book.asks as u64,
-                tracking,
-                volume,
-                1,
-                t.total_qty.0,
-                average,
-                t.whole_avg_price.0,
-                t.last_price.0,
-                t.last_qty.0,
-            ]
+    }
+}
+
+// A quote.
+impl InNumbers for Option<Price> {
+    ghost as_numbers = { quote_as_numbers };
+
+    fn numbers(self) -> [u64; ANSWER] {
+        match self {
+            None => [0, 0, 0, 0],
+            Some(price) => [1, price.0, 0, 0],
         }
     }
 }
 
-pub fn event_numbers(event: OrderEvent) -> [u64; ANSWER]
-    ensures { result ≡ event_as_numbers event }
-{
-    match event {
-        OrderEvent::Unfilled { id } => [UNFILLED, id.0, 0, 0],
-        OrderEvent::Placed { id } => [PLACED, id.0, 0, 0],
-        OrderEvent::Canceled { id } => [CANCELED, id.0, 0, 0],
-        OrderEvent::PartiallyFilled {
-            id,
-            filled_qty,
-            fills,
-        } => { [PARTIALLY_FILLED, id.0, filled_qty.0, fills as u64] }
-        OrderEvent::Filled {
-            id,
-            filled_qty,
-            fills,
-        } => [FILLED, id.0, filled_qty.0, fills as u64],
+impl InNumbers for BookDepth {
+    ghost as_numbers = { depth_as_numbers };
+
+    fn numbers(self) -> [u64; ANSWER] {
+        [self.levels as u64, self.asks as u64, self.bids as u64, 0]
     }
 }
 
-pub fn quote_numbers(quote: Quote) -> [u64; ANSWER]
-    ensures { result ≡ quote_as_numbers quote }
-{
-    match quote {
-        Quote::Absent => [0, 0, 0, 0],
-        Quote::Present(price) => [1, price.0, 0, 0],
+impl InNumbers for Lookup {
+    ghost as_numbers = { λ look. look_as_numbers look.found look.count };
+
+    fn numbers(self) -> [u64; ANSWER] {
+        let count = self.count as u64;
+        match self.found {
+            None => [0, 0, 0, count],
+            Some(order) => [1, order.price.0, order.qty.0, count],
+        }
     }
 }
 
-pub fn depth_numbers(depth: BookDepth) -> [u64; ANSWER]
-    ensures { result ≡ depth_as_numbers depth }
+// What a call returns, its answer's numbers written where it is accepted.
+pub fn told<T: InNumbers>(told: Result<T, Refusal>, answer: &mut [u64; ANSWER]) -> u64
+    ensures { Told T.as_numbers answer.old told result answer.new }
 {
-    [depth.levels as u64, depth.asks as u64, depth.bids as u64, 0]
+    match told {
+        Ok(value) => {
+            *answer = value.numbers();
+            ACCEPTED
+        }
+        Err(refusal) => u64::from(refusal),
+    }
 }
 
-pub fn look_numbers(look: Lookup) -> [u64; ANSWER]
-    ensures { result ≡ look_as_numbers look.found look.count }
+// The same of an order or a cancel, which leaves these small values.
+pub fn reported(
+    done: Result<OrderEvent, Refusal>,
+    book: OrderBook,
+    statistics: Statistics,
+    desk: &mut [u64; DESK],
+    answer: &mut [u64; ANSWER],
+) -> u64
+    ensures { Reported desk.old answer.old done book statistics result desk.new answer.new }
 {
-    let found = look.found;
-    let count = look.count as u64;
-    match found {
-        Found::Nothing => [0, 0, 0, count],
-        Found::At { price, qty } => [1, price.0, qty.0, count],
+    if done.is_ok() {
+        *desk = written(book, statistics);
+    }
+    told(done, answer)
+}
+
+// An order from its numbers: a limit order where it has a price, else a market order.
+pub fn order(id: u64, side: u64, qty: u64, price: Option<u64>) -> Result<OrderType, Refusal>
+    ensures { OrderOf (order_in id qty price) side result }
+{
+    let side = Side::try_from(side)?;
+    let id = Id(id);
+    let qty = Quantity(qty);
+    match price {
+        None => Ok(OrderType::Market { id, side, qty }),
+        Some(price) => Ok(OrderType::Limit {
+            id,
+            side,
+            qty,
+            price: Price(price),
+        }),
     }
 }

@@ -3,32 +3,18 @@
 
 ghost use Rattle.std.specs.Prelude.{◌≡◌, ◌≤◌};
 ghost use Rattle.models.specs.Readings.{event_of};
-ghost use Rattle.order.specs.Decided.{refusal_number, filled, remains, totals_by, decided, event_by};
+ghost use Rattle.stats.specs.Statistics.{refusal_in};
+ghost use Rattle.order.specs.Decided.{filled, remains, totals_by, decided, event_by};
 
-use models::{OrderEvent, Quantity};
+use models::{OrderEvent, Price, Quantity, Refusal};
 use stats::{Statistics, Totals};
-use sums::exact;
 use survey::{Outlook, Taker};
 
-// Document 01's numbers of refusals.
-pub const NO_REFUSAL: u64 = 0;
-
-pub const FILLS_OUTNUMBER_PLACES: u64 = 2;
-
-pub const SUM_TOO_LARGE: u64 = 3;
-
-pub const NO_ORDER_LEFT: u64 = 4;
-
-pub const NO_PRICE_LEFT: u64 = 5;
-
-// Whether a remainder would rest.
-pub fn rests(t: Taker, s: Outlook) -> bool
-    ensures { result ≡ remains t.any s.left.0 }
+// The price at which a remainder would rest, if one would.
+pub fn standing(t: Taker, s: Outlook) -> Option<Price>
+    ensures { result ≡ remains t.limit s.left.0 }
 {
-    if s.left.0 == 0 {
-        return false;
-    }
-    !t.any
+    if s.left.0 == 0 { None } else { t.limit }
 }
 
 // The totals of its fills.
@@ -36,41 +22,36 @@ pub fn totals(t: Taker, s: Outlook) -> Totals
     requires { s.left.0 ≤ t.qty.0 }
     ensures { result ≡ totals_by t s }
 {
-    let worth = s.worth;
-    let quantity = exact(t.qty.0 - s.left.0);
-    Totals { worth, quantity }
+    Totals {
+        worth: s.worth,
+        quantity: Some(t.qty.0 - s.left.0),
+    }
 }
 
-// The number of the lowest refusal that applies, or 0.
-pub fn refusal(
+// The lowest refusal that applies, if one does.
+pub fn checked(
     places: usize,
     t: Taker,
     s: Outlook,
     statistics: Statistics,
-    rests: bool,
+    at: Option<Price>,
     full: bool,
     crowded: bool,
-) -> u64
+) -> Result<(), Refusal>
     requires { s.left.0 ≤ t.qty.0 }
-    ensures { result ≡ refusal_number (decided places t s statistics rests full crowded) }
+    ensures { refusal_in result ≡ decided places t s statistics at full crowded }
 {
     if places < s.fills {
-        return FILLS_OUTNUMBER_PLACES;
+        return Err(Refusal::FillsOutnumberPlaces);
     }
-    let totals = totals(t, s);
-    if statistics.too_large(s.fills, totals) {
-        return SUM_TOO_LARGE;
+    if statistics.too_large(s.fills, totals(t, s)) {
+        return Err(Refusal::SumTooLarge);
     }
-    if !rests {
-        return NO_REFUSAL;
+    match at {
+        Some(_) if full => Err(Refusal::NoOrderLeft),
+        Some(_) if crowded => Err(Refusal::NoPriceLeft),
+        _ => Ok(()),
     }
-    if full {
-        return NO_ORDER_LEFT;
-    }
-    if crowded {
-        return NO_PRICE_LEFT;
-    }
-    NO_REFUSAL
 }
 
 // What the order is answered.
@@ -81,10 +62,10 @@ pub fn event(t: Taker, s: Outlook) -> OrderEvent
     let id = t.id;
     let fills = s.fills;
     if fills == 0 {
-        if t.any {
-            return OrderEvent::Unfilled { id };
-        }
-        return OrderEvent::Placed { id };
+        return match t.limit {
+            Some(_) => OrderEvent::Placed { id },
+            None => OrderEvent::Unfilled { id },
+        };
     }
     let filled_qty = Quantity(t.qty.0 - s.left.0);
     if s.left.0 == 0 {

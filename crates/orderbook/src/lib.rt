@@ -1,22 +1,21 @@
 // The desk of the base: lobster's order book over storage for 1,024 resting orders and 128 prices a side, as public calls that demand nothing of the caller.
-// Each is the call of the same name in `calls` or `questions`, at this one size; a market and a limit order are `execute` of it.
+// Each is the call of the same name in `calls` or `questions`, at this one size; a market and a limit order are `execute` of it, and the
+// lowest ask and the highest bid are `best` of a side. They stay functions of their own, a line each: they are lobster's, and README.md and docs/PROMISES.md
+// name them.
 // Storage is lent: RECORDS numbers for the orders, LEVELS for the prices of each side, PLACES for the search.
 #![tactic(auto)]
 
-ghost use Rattle.std.specs.Prelude.{[]};
 ghost use Rattle.rules.specs.Rules as rule;
 ghost use Rattle.models.specs.declared.OrderType.TheVariants.{Market, Limit};
 ghost use Rattle.models.specs.Readings.{call_of};
 ghost use Rattle.rows.specs.Rows.{fill_row, places};
-ghost use Rattle.ledger.specs.Stock.{stock};
-ghost use Rattle.calls.specs.Calls.{Executes, Makes};
+ghost use Rattle.ledger.specs.Stock.{stock_of, stock_in, Relent};
+ghost use Rattle.calls.specs.Calls.{Cancels, Executes, Makes};
 ghost use Rattle.questions.specs.Questions.{Tells, lowest_ask, highest_bid, spread_of, Shows, Finds};
 
-use calls::Opening;
-use desk::Executed;
-use ledger::OrderBook;
-use models::{Id, OrderType, Price, Quantity, Side};
-use questions::{Deep, Got, Quoted};
+use depth::Lookup;
+use ledger::{BookView, StoredBook};
+use models::{BookDepth, Id, OrderEvent, OrderType, Price, Quantity, Refusal, Side};
 use stats::Statistics;
 use whole::Size;
 
@@ -37,72 +36,57 @@ pub const LEVELS: usize = 384;
 
 pub const PLACES: usize = 2048;
 
-// A fresh book over storage of the right lengths, whatever it holds; other lengths get 1 and stay unchanged.
-pub fn fresh(records: &mut [u64], bids: &mut [u64], asks: &mut [u64], search: &mut [u64]) -> Opening
-    ensures { Makes rule.hall records.old bids.old asks.old search.old result
-        records.new bids.new asks.new search.new }
+// A fresh book over storage of the right lengths, whatever it holds; other lengths are refused and stay unchanged.
+pub fn fresh(book: &mut StoredBook<'_>) -> Result<Statistics, Refusal>
+    ensures lent { Relent book.old book.new }
+    ensures makes { Makes rule.hall (stock_of book.old) result (stock_of book.new) }
 {
-    calls::fresh(SIZE, records, bids, asks, search)
+    calls::fresh(SIZE, book)
 }
 
 // An order or a cancel.
 pub fn execute(
-    book: OrderBook,
-    statistics: Statistics,
-    records: &mut [u64],
-    bids: &mut [u64],
-    asks: &mut [u64],
-    search: &mut [u64],
+    book: &mut StoredBook<'_>,
+    statistics: &mut Statistics,
     fills: &mut [u64],
     order: OrderType,
-) -> Executed
-    ensures { Executes rule.hall (call_of (places fill_row fills.old) order)
-        (stock book records.old bids.old asks.old search.old) statistics fills.old
-        result.answer (stock result.book records.new bids.new asks.new search.new) result.statistics fills.new }
+) -> Result<OrderEvent, Refusal>
+    ensures lent { Relent book.old book.new }
+    ensures executes { Executes rule.hall (call_of (places fill_row fills.old) order)
+        (stock_of book.old) statistics.old fills.old result (stock_of book.new) statistics.new fills.new }
 {
-    calls::execute(
-        SIZE, book, statistics, records, bids, asks, search, fills, order,
-    )
+    calls::execute(SIZE, book, statistics, fills, order)
 }
 
 // A market order.
 pub fn market(
-    book: OrderBook,
-    statistics: Statistics,
-    records: &mut [u64],
-    bids: &mut [u64],
-    asks: &mut [u64],
-    search: &mut [u64],
+    book: &mut StoredBook<'_>,
+    statistics: &mut Statistics,
     fills: &mut [u64],
     id: Id,
     side: Side,
     qty: Quantity,
-) -> Executed
-    ensures { Executes rule.hall (call_of (places fill_row fills.old) (Market id side qty))
-        (stock book records.old bids.old asks.old search.old) statistics fills.old
-        result.answer (stock result.book records.new bids.new asks.new search.new) result.statistics fills.new }
+) -> Result<OrderEvent, Refusal>
+    ensures lent { Relent book.old book.new }
+    ensures executes { Executes rule.hall (call_of (places fill_row fills.old) (Market id side qty))
+        (stock_of book.old) statistics.old fills.old result (stock_of book.new) statistics.new fills.new }
 {
-    let order = OrderType::Market { id, side, qty };
-    execute(book, statistics, records, bids, asks, search, fills, order)
+    execute(book, statistics, fills, OrderType::Market { id, side, qty })
 }
 
 // A limit order.
 pub fn limit(
-    book: OrderBook,
-    statistics: Statistics,
-    records: &mut [u64],
-    bids: &mut [u64],
-    asks: &mut [u64],
-    search: &mut [u64],
+    book: &mut StoredBook<'_>,
+    statistics: &mut Statistics,
     fills: &mut [u64],
     id: Id,
     side: Side,
     qty: Quantity,
     price: Price,
-) -> Executed
-    ensures { Executes rule.hall (call_of (places fill_row fills.old) (Limit id side qty price))
-        (stock book records.old bids.old asks.old search.old) statistics fills.old
-        result.answer (stock result.book records.new bids.new asks.new search.new) result.statistics fills.new }
+) -> Result<OrderEvent, Refusal>
+    ensures lent { Relent book.old book.new }
+    ensures executes { Executes rule.hall (call_of (places fill_row fills.old) (Limit id side qty price))
+        (stock_of book.old) statistics.old fills.old result (stock_of book.new) statistics.new fills.new }
 {
     let order = OrderType::Limit {
         id,
@@ -110,91 +94,48 @@ pub fn limit(
         qty,
         price,
     };
-    execute(book, statistics, records, bids, asks, search, fills, order)
+    execute(book, statistics, fills, order)
 }
 
 // The order found under the id leaves, if there is one.
-pub fn cancel(
-    book: OrderBook,
-    statistics: Statistics,
-    records: &mut [u64],
-    bids: &mut [u64],
-    asks: &mut [u64],
-    search: &mut [u64],
-    id: Id,
-) -> Executed
-    ensures { Executes rule.hall (rule.cancel id.0)
-        (stock book records.old bids.old asks.old search.old) statistics []
-        result.answer (stock result.book records.new bids.new asks.new search.new) result.statistics [] }
+pub fn cancel(book: &mut StoredBook<'_>, id: Id) -> Result<OrderEvent, Refusal>
+    ensures lent { Relent book.old book.new }
+    ensures cancels { Cancels rule.hall id.0 (stock_of book.old) result (stock_of book.new) }
 {
-    calls::cancel(SIZE, book, statistics, records, bids, asks, search, id)
+    calls::cancel(SIZE, book, id)
 }
 
 // The lowest ask.
-pub fn min_ask(
-    book: OrderBook,
-    records: &[u64],
-    bids: &[u64],
-    asks: &[u64],
-    search: &[u64],
-) -> Quoted
-    ensures { Tells rule.hall lowest_ask (stock book records.now bids.now asks.now search.now) result }
+pub fn min_ask(view: BookView<'_>) -> Result<Option<Price>, Refusal>
+    ensures { Tells rule.hall lowest_ask (stock_in view.entry) result }
 {
-    questions::min_ask(SIZE, book, records, bids, asks, search)
+    questions::best(SIZE, view, Side::Ask)
 }
 
 // The highest bid.
-pub fn max_bid(
-    book: OrderBook,
-    records: &[u64],
-    bids: &[u64],
-    asks: &[u64],
-    search: &[u64],
-) -> Quoted
-    ensures { Tells rule.hall highest_bid (stock book records.now bids.now asks.now search.now) result }
+pub fn max_bid(view: BookView<'_>) -> Result<Option<Price>, Refusal>
+    ensures { Tells rule.hall highest_bid (stock_in view.entry) result }
 {
-    questions::max_bid(SIZE, book, records, bids, asks, search)
+    questions::best(SIZE, view, Side::Bid)
 }
 
 // The lowest ask less the highest bid, where both are there.
-pub fn spread(
-    book: OrderBook,
-    records: &[u64],
-    bids: &[u64],
-    asks: &[u64],
-    search: &[u64],
-) -> Quoted
-    ensures { Tells rule.hall spread_of (stock book records.now bids.now asks.now search.now) result }
+pub fn spread(view: BookView<'_>) -> Result<Option<Price>, Refusal>
+    ensures { Tells rule.hall spread_of (stock_in view.entry) result }
 {
-    questions::spread(SIZE, book, records, bids, asks, search)
+    questions::spread(SIZE, view)
 }
 
 // Every occupied price with its total: asks from the start of `out`, then bids, both ascending. `levels` is echoed.
-pub fn depth(
-    book: OrderBook,
-    records: &[u64],
-    bids: &[u64],
-    asks: &[u64],
-    search: &[u64],
-    levels: usize,
-    out: &mut [u64],
-) -> Deep
-    ensures { Shows rule.hall levels (stock book records.now bids.now asks.now search.now)
-        out.old result out.new }
+pub fn depth(view: BookView<'_>, levels: usize, out: &mut [u64]) -> Result<BookDepth, Refusal>
+    ensures { Shows rule.hall levels (stock_in view.entry) out.old result out.new }
 {
-    questions::depth(SIZE, book, records, bids, asks, search, levels, out)
+    questions::depth(SIZE, view, levels, out)
 }
 
 // The order that the search finds under the id, with the number of places that it looked at.
-pub fn get(
-    book: OrderBook,
-    records: &[u64],
-    bids: &[u64],
-    asks: &[u64],
-    search: &[u64],
-    id: Id,
-) -> Got
-    ensures { Finds rule.hall id.0 (stock book records.now bids.now asks.now search.now) result }
+pub fn get(view: BookView<'_>, id: Id) -> Result<Lookup, Refusal>
+    ensures { Finds rule.hall id.0 (stock_in view.entry) result }
 {
-    questions::get(SIZE, book, records, bids, asks, search, id)
+    questions::get(SIZE, view, id)
 }

@@ -2,84 +2,53 @@
 // once it has looked.
 #![tactic(auto)]
 
-ghost use Rattle.std.specs.Prelude.{◌≡◌, ℕ};
 ghost use Rattle.models.specs.Readings.{call_of};
 ghost use Rattle.rows.specs.Rows.{fill_row, places};
-ghost use Rattle.ledger.specs.Stock.{stock};
+ghost use Rattle.ledger.specs.Stock.{stock_of, Relent};
 ghost use Rattle.whole.specs.Whole.{WholeStock, size_of};
 ghost use Rattle.desk.specs.Performs.{Performs};
-ghost use Rattle.perform.specs.Requests.{call_for};
 
-use desk::{Answer, Executed};
-use ledger::OrderBook;
-use models::{Id, OrderEvent, OrderType, Price};
+use ledger::StoredBook;
+use models::{OrderEvent, OrderType, Refusal};
 use stats::Statistics;
 use survey::Taker;
 use whole::Size;
 
-// What an order asks of the desk: to be carried out, or that another is taken back.
-#[derive(Clone, Copy)]
-enum Request {
-    Enter(Taker),
-    Withdraw(Id),
-}
-
-fn request_of(order: OrderType) -> Request
-    ensures { (room : ℕ) → call_for room result ≡ call_of room order }
+// An order or a cancel.
+pub fn perform(
+    size: Size,
+    book: &mut StoredBook<'_>,
+    statistics: &mut Statistics,
+    fills: &mut [u64],
+    order: OrderType,
+) -> Result<OrderEvent, Refusal>
+    requires { WholeStock (size_of size) (stock_of book.old) }
+    ensures lent { Relent book.old book.new }
+    ensures performs { Performs (WholeStock (size_of size)) (size_of size) (call_of (places fill_row fills.old) order)
+        (stock_of book.old) statistics.old fills.old result (stock_of book.new) statistics.new fills.new }
 {
-    match order {
-        OrderType::Market { id, side, qty } => Request::Enter(Taker {
+    let taker = match order {
+        OrderType::Market { id, side, qty } => Taker {
             id,
             side,
-            any: true,
-            limit: Price(0),
+            limit: None,
             qty,
-        }),
+        },
         OrderType::Limit {
             id,
             side,
             qty,
             price,
-        } => Request::Enter(Taker {
+        } => Taker {
             id,
             side,
-            any: false,
-            limit: price,
+            limit: Some(price),
             qty,
-        }),
-        OrderType::Cancel { id } => Request::Withdraw(id),
-    }
-}
-
-// An order or a cancel.
-pub fn perform(
-    size: Size,
-    book: OrderBook,
-    statistics: Statistics,
-    records: &mut [u64],
-    bids: &mut [u64],
-    asks: &mut [u64],
-    search: &mut [u64],
-    fills: &mut [u64],
-    order: OrderType,
-) -> Executed
-    requires { WholeStock (size_of size) (stock book records.old bids.old asks.old search.old) }
-    ensures { Performs (WholeStock (size_of size)) (size_of size) (call_of (places fill_row fills.old) order)
-        (stock book records.old bids.old asks.old search.old) statistics fills.old
-        result.answer (stock result.book records.new bids.new asks.new search.new) result.statistics fills.new }
-{
-    let request = request_of(order);
-    match request {
-        Request::Enter(t) => desk::order(
-            size, book, statistics, records, bids, asks, search, fills, t,
-        ),
-        Request::Withdraw(id) => {
-            let after = desk::withdraw(records, bids, asks, search, book, id);
-            Executed {
-                answer: Answer::Done(OrderEvent::Canceled { id }),
-                book: after,
-                statistics,
-            }
+        },
+        OrderType::Cancel { id } => {
+            desk::withdraw(book, id);
+            return Ok(OrderEvent::Canceled { id });
         }
-    }
+    };
+    desk::order(size, book, statistics, fills, taker)
 }

@@ -5,7 +5,8 @@ use native.Mathlib.Omega.{arith}
 use mathlib.Core.Path.{◌≡◌, sym, ap, subst, ◌∙◌}
 use mathlib.Core.Bool.{not}
 use mathlib.Core.List.{List}
-use mathlib.Core.Option.{Option, none}
+use mathlib.Core.Option as maybe
+use Rattle.std.specs.Prelude.{Result, Ok, Err}
 use lib.Dec.{eqb}
 use lib.ListN.{length, length-set}
 use Rattle.rules.specs.Rules as rule
@@ -15,25 +16,17 @@ use Rattle.models.specs.declared.Side.{Side}
 use Rattle.stats.specs.declared.Statistics.{Statistics}
 use Rattle.stats.specs.Statistics.{last_of, statistics_of}
 use Rattle.ledger.specs.declared.OrderBook.{OrderBook}
-use Rattle.desk.specs.declared.Answer.{Answer}
-use Rattle.desk.specs.declared.Answer.TheVariants.{Refused, Done}
+use Rattle.models.specs.declared.Refusal.{Refusal}
 use Rattle.ledger.specs.Stock.{Stock, stock}
 use Rattle.desk.specs.Stock.{read_desk}
 use Rattle.desk.specs.Performs.{answer_of}
 use Rattle.desk.specs.Performs as perf
-use Rattle.questions.specs.declared.Quoted.{Quoted}
-use Rattle.questions.specs.declared.Quoted.TheVariants as quoted
-use Rattle.questions.specs.declared.Deep.{Deep}
-use Rattle.questions.specs.declared.Deep.TheVariants as deep
-use Rattle.questions.specs.declared.Got.{Got}
-use Rattle.questions.specs.declared.Got.TheVariants as got
-use Rattle.calls.specs.declared.Opening.{Opening}
-use Rattle.models.specs.Readings.{Reading, number, value}
+use Rattle.models.specs.Readings.{Reading, number, value, refusal_number}
 use Rattle.calls.specs.Calls.{opening_of, Executes, Makes}
 use Rattle.whole.specs.Whole.{WholeStock}
 use Rattle.calls.specs.Calls as call
 use Rattle.numbers.specs.Numbers.{book_in, statistics_in, yes, numbers_of, event_as_numbers, quote_as_numbers, depth_as_numbers, look_as_numbers}
-use Rattle.numbers.specs.Reports.{Reported, Quotes, Depths, LookReported, Opens}
+use Rattle.numbers.specs.Reports.{Told, Reported, Opens}
 use Rattle.numbers.specs.Reports as report
 use Rattle.ffi.specs.Exports.{Carried, Ordered, Asked, Deepened, Sought, OpenedAs, Checked}
 use Rattle.ffi.specs.Exports as ffi
@@ -47,17 +40,17 @@ use Rattle.promises.proofs.Numbers.{numbers_statistics, numbers_long, double_in,
 
 -- ## orders and cancels
 
-refused_not_done : {n : ℕ} {v : OrderEvent} → Refused n ≡ Done v → ⊥
-refused_not_done e = let z : ◌≡◌ {A = ℕ} 0 1 = cc in omega arith
+refused_not_done : {r : Refusal} {v : OrderEvent} → ◌≡◌ {A = Result OrderEvent Refusal} (Err r) (Ok v) → ⊥
+refused_not_done e = cc
 
 -- an answer is no refusal and an event both
-refused_done : (a : Answer) {n : ℕ} {e : rule.Event} {l : List (rule.Fill (Unit {0}))} → a ≡ Refused n → answer_of a l ≡ rule.done e l → ⊥
-refused_done (Refused m) p q = let z : ◌≡◌ {A = ℕ} 0 1 = cc in omega arith
-refused_done (Done v) p q = refused_not_done (sym p)
+refused_done : (a : Result OrderEvent Refusal) {r : Refusal} {e : rule.Event} {l : List (rule.Fill (Unit {0}))} → a ≡ Err r → answer_of a l ≡ rule.done e l → ⊥
+refused_done (Err r) p q = cc
+refused_done (Ok v) p q = refused_not_done (sym p)
 
-module _ {z : rule.Size} {c : rule.Call (Unit {0})} {k k' : Stock} {st st' : Statistics} {out out' : List ℕ} {a : Answer} where
+module _ {z : rule.Size} {c : rule.Call (Unit {0})} {k k' : Stock} {st st' : Statistics} {out out' : List ℕ} {a : Result OrderEvent Refusal} where
   -- a refusal keeps all
-  refused_keeps : {n : ℕ} → Executes z c k st out a k' st' out' → a ≡ Refused n → (k' ≡ k) × (st' ≡ st)
+  refused_keeps : {r : Refusal} → Executes z c k st out a k' st' out' → a ≡ Err r → (k' ≡ k) × (st' ≡ st)
   refused_keeps (call.broken w p q r s) e = (q, r)
   refused_keeps (call.performed w (perf.refused n u p q r s)) e = (q, r)
   refused_keeps (call.performed w (perf.carried v l u p d x t)) e = absurd (refused_done a e p)
@@ -75,7 +68,7 @@ module _ {c : rule.Call (Unit {0})} {d rs bd ak se out an d' rs' bd' ak' se' out
   carried_reads x = go x.reported
     where
       go : Reported d an x.answer x.book x.statistics n d' an' → (book_in d' ≡ x.book) × (statistics_in d' ≡ x.statistics)
-      go (report.refused p q r) =
+      go (report.refused _ p m q r) =
           let e = refused_keeps x.executes p in
           (ap book_in q ∙ sym (ap (λ (k : Stock). k.book) e.0), ap statistics_in q ∙ sym e.1)
       go (report.done v p m q r) =
@@ -85,7 +78,7 @@ module _ {c : rule.Call (Unit {0})} {d rs bd ak se out an d' rs' bd' ak' se' out
   carried_long h x = go x.reported
     where
       go : Reported d an x.answer x.book x.statistics n d' an' → length d' ≡ 12
-      go (report.refused p q r) = ap length q ∙ h
+      go (report.refused _ p m q r) = ap length q ∙ h
       go (report.done v p m q r) = ap length q ∙ numbers_long x.book x.statistics
 
 -- but for the first free code, the numbers of two stocks that read alike are the same
@@ -93,12 +86,14 @@ numbers_same : {b₁ b₂ : OrderBook} {st₁ st₂ : Statistics} {rs₁ bd₁ a
     → SameDesk (stock b₁ rs₁ bd₁ ak₁ se₁) (stock b₂ rs₂ bd₂ ak₂ se₂) st₁ st₂ → but_free (numbers_of b₁ st₁) ≡ but_free (numbers_of b₂ st₂)
 numbers_same e = λ i. but_free (numbers_of (record { resting = e.resting i; free = 0; bids = e.bids i; asks = e.asks i }) (e.statistics i))
 
-module _ {d an : List ℕ} {a₁ a₂ : Answer} {b₁ b₂ : OrderBook} {st₁ st₂ : Statistics} {rs₁ bd₁ ak₁ se₁ rs₂ bd₂ ak₂ se₂ : List ℕ} {n₁ n₂ : ℕ} {d₁ d₂ an₁ an₂ : List ℕ}
+module _ {d an : List ℕ} {a₁ a₂ : Result OrderEvent Refusal} {b₁ b₂ : OrderBook} {st₁ st₂ : Statistics} {rs₁ bd₁ ak₁ se₁ rs₂ bd₂ ak₂ se₂ : List ℕ} {n₁ n₂ : ℕ} {d₁ d₂ an₁ an₂ : List ℕ}
     (e : a₁ ≡ a₂) (s : SameDesk (stock b₁ rs₁ bd₁ ak₁ se₁) (stock b₂ rs₂ bd₂ ak₂ se₂) st₁ st₂) where
   reported_once : Reported d an a₁ b₁ st₁ n₁ d₁ an₁ → Reported d an a₂ b₂ st₂ n₂ d₂ an₂ → (n₁ ≡ n₂) × (an₁ ≡ an₂) × (but_free d₁ ≡ but_free d₂)
-  reported_once (report.refused p q r) (report.refused p' q' r') = (cc, cc, ap but_free (q ∙ sym q'))
-  reported_once (report.refused p q r) (report.done v p' m q' r') = absurd (refused_not_done (sym p ∙ (e ∙ p')))
-  reported_once (report.done v p m q r) (report.refused p' q' r') = absurd (refused_not_done (sym p' ∙ (sym e ∙ p)))
+  reported_once (report.refused f p m q r) (report.refused f' p' m' q' r') =
+      let w : f ≡ f' = cc in
+      (m ∙ (ap refusal_number w ∙ sym m'), r ∙ sym r', ap but_free (q ∙ sym q'))
+  reported_once (report.refused f p m q r) (report.done v p' m' q' r') = absurd (refused_not_done (sym p ∙ (e ∙ p')))
+  reported_once (report.done v p m q r) (report.refused f p' m' q' r') = absurd (refused_not_done (sym p' ∙ (sym e ∙ p)))
   reported_once (report.done v p m q r) (report.done v' p' m' q' r') =
       let w : v ≡ v' = cc in
       (m ∙ sym m', r ∙ (ap event_as_numbers w ∙ sym r'), ap but_free q ∙ (numbers_same s ∙ sym (ap but_free q')))
@@ -143,50 +138,32 @@ ordered_once o {d = d} {rs = rs} {bd = bd} {ak = ak} {se = se} {out = out} {an =
 
 -- ## questions: result and numbers are the answer's
 
-quoted_in : List ℕ → Quoted → ℕ × List ℕ
-quoted_in an (quoted.Refused n) = (n, an)
-quoted_in an (quoted.Told q) = (0, quote_as_numbers q)
+told_in : {X : Type 0} → (X → List ℕ) → List ℕ → Result X Refusal → ℕ × List ℕ
+told_in f an (Err e) = (refusal_number e, an)
+told_in f an (Ok x) = (0, f x)
 
-quotes_is : {an an' : List ℕ} {a : Quoted} {n : ℕ} → Quotes an a n an' → (n, an') ≡ quoted_in an a
-unfolding quoted_in
-quotes_is (report.refused p q) = rw (p, q)
-quotes_is (report.told v p m q) = rw (p, m, q)
-
-deep_in : List ℕ → Deep → ℕ × List ℕ
-deep_in an (deep.Refused n) = (n, an)
-deep_in an (deep.Told q) = (0, depth_as_numbers q)
-
-depths_is : {an an' : List ℕ} {a : Deep} {n : ℕ} → Depths an a n an' → (n, an') ≡ deep_in an a
-unfolding deep_in
-depths_is (report.refused p q) = rw (p, q)
-depths_is (report.told v p m q) = rw (p, m, q)
-
-got_in : List ℕ → Got → ℕ × List ℕ
-got_in an (got.Refused n) = (n, an)
-got_in an (got.Told q) = (0, look_as_numbers q.found q.count)
-
-looks_is : {an an' : List ℕ} {a : Got} {n : ℕ} → LookReported an a n an' → (n, an') ≡ got_in an a
-unfolding got_in
-looks_is (report.refused p q) = rw (p, q)
-looks_is (report.told v p m q) = rw (p, m, q)
+told_is : {X : Type 0} {f : X → List ℕ} {an an' : List ℕ} {a : Result X Refusal} {n : ℕ} → Told f an a n an' → (n, an') ≡ told_in f an a
+unfolding told_in
+told_is (report.refused e p m q) = rw (p, m, q)
+told_is (report.told v p m q) = rw (p, m, q)
 
 both_of : {n₁ n₂ : ℕ} {an₁ an₂ : List ℕ} {v : ℕ × List ℕ} → (n₁, an₁) ≡ v → (n₂, an₂) ≡ v → (n₁ ≡ n₂) × (an₁ ≡ an₂)
 both_of p q = (ap (λ (v : ℕ × List ℕ). v.0) (p ∙ sym q), ap (λ (v : ℕ × List ℕ). v.1) (p ∙ sym q))
 
-pub asked_once : {f : rule.Book (Unit {0}) → Option ℕ} {d rs bd ak se an an₁ an₂ : List ℕ} {n₁ n₂ : ℕ}
+pub asked_once : {f : rule.Book (Unit {0}) → maybe.Option ℕ} {d rs bd ak se an an₁ an₂ : List ℕ} {n₁ n₂ : ℕ}
     → Asked f d rs bd ak se an n₁ an₁ → Asked f d rs bd ak se an n₂ an₂ → (n₁ ≡ n₂) × (an₁ ≡ an₂)
-asked_once {an = an} x y = both_of (quotes_is x.reported) (quotes_is y.reported ∙ ap (quoted_in an) (sym (tells_once x.tells y.tells)))
+asked_once {an = an} x y = both_of (told_is x.reported) (told_is y.reported ∙ ap (told_in quote_as_numbers an) (sym (tells_once x.tells y.tells)))
 
 pub deepened_once : {l : ℕ} {d rs bd ak se out an out₁ an₁ out₂ an₂ : List ℕ} {n₁ n₂ : ℕ}
     → Deepened l d rs bd ak se out an n₁ out₁ an₁ → Deepened l d rs bd ak se out an n₂ out₂ an₂ → (n₁ ≡ n₂) × (an₁ ≡ an₂) × (out₁ ≡ out₂)
 deepened_once {an = an} x y =
     let e = shows_once x.shows y.shows in
-    let r = both_of (depths_is x.reported) (depths_is y.reported ∙ ap (deep_in an) (sym e.0)) in
+    let r = both_of (told_is x.reported) (told_is y.reported ∙ ap (told_in depth_as_numbers an) (sym e.0)) in
     (r.0, r.1, e.1)
 
 pub sought_once : {i : ℕ} {d rs bd ak se an an₁ an₂ : List ℕ} {n₁ n₂ : ℕ}
     → Sought i d rs bd ak se an n₁ an₁ → Sought i d rs bd ak se an n₂ an₂ → (n₁ ≡ n₂) × (an₁ ≡ an₂)
-sought_once {an = an} x y = both_of (looks_is x.reported) (looks_is y.reported ∙ ap (got_in an) (sym (finds_once x.finds y.finds)))
+sought_once {an = an} x y = both_of (told_is x.reported) (told_is y.reported ∙ ap (told_in (λ l. look_as_numbers l.found l.count) an) (sym (finds_once x.finds y.finds)))
 
 pub checked_once : {z : rule.Size} {d rs bd ak se : List ℕ} {n₁ n₂ : ℕ} → Checked z d rs bd ak se n₁ → Checked z d rs bd ak se n₂ → n₁ ≡ n₂
 checked_once (ffi.whole w p) (ffi.whole w' p') = p ∙ sym p'
@@ -200,10 +177,15 @@ opening_in : List ℕ → Reading (OrderBook × Statistics) → ℕ × List ℕ
 opening_in d (number n) = (n, d)
 opening_in d (value v) = (0, numbers_of v.0 v.1)
 
-opens_is : {d d' : List ℕ} {a : Opening} {n : ℕ} → Opens d a n d' → (n, d') ≡ opening_in d (opening_of a)
+opens_is : {d d' : List ℕ} {a : Result Statistics Refusal} {b : OrderBook} {n : ℕ} → Opens d a b n d' → (n, d') ≡ opening_in d (opening_of b a)
 unfolding opening_in
-opens_is (report.refused p q) = rw (p, q)
-opens_is (report.made b st p m q) = rw (p, m, q)
+opens_is (report.refused e p m q) = rw (p, m, q)
+opens_is (report.made st p m q) = rw (p, m, q)
+
+-- a refusal is one whatever the small values
+refused_any : (b c : OrderBook) (a : Result Statistics Refusal) {n : ℕ} → opening_of b a ≡ number n → opening_of c a ≡ number n
+refused_any b c (Err e) h = h
+refused_any b c (Ok st) h = absurd cc
 
 pub opened_once : {d rs bd ak se d₁ rs₁ bd₁ ak₁ se₁ d₂ rs₂ bd₂ ak₂ se₂ : List ℕ} {n₁ n₂ : ℕ}
     → OpenedAs d rs bd ak se n₁ d₁ rs₁ bd₁ ak₁ se₁ → OpenedAs d rs bd ak se n₂ d₂ rs₂ bd₂ ak₂ se₂
@@ -212,18 +194,19 @@ unfolding opening_in
 opened_once {d} {d₁ = d₁} {rs₁ = rs₁} {bd₁ = bd₁} {ak₁ = ak₁} {se₁ = se₁} {d₂ = d₂} {rs₂ = rs₂} {bd₂ = bd₂} {ak₂ = ak₂} {se₂ = se₂} {n₁ = n₁} {n₂ = n₂} x y =
     go (makes_once x.makes y.makes)
   where
-    go : AgreeFresh x.answer y.answer rs₁ bd₁ ak₁ se₁ rs₂ bd₂ ak₂ se₂ → (n₁ ≡ n₂) × SameNumbers d₁ rs₁ bd₁ ak₁ se₁ d₂ rs₂ bd₂ ak₂ se₂
+    go : AgreeFresh x.answer y.answer (stock x.book rs₁ bd₁ ak₁ se₁) (stock y.book rs₂ bd₂ ak₂ se₂) → (n₁ ≡ n₂) × SameNumbers d₁ rs₁ bd₁ ak₁ se₁ d₂ rs₂ bd₂ ak₂ se₂
     go (neither p e q r s t) =
-        let g = both_of (opens_is x.reported) (opens_is y.reported ∙ ap (λ (a : Opening). opening_in d (opening_of a)) (sym e)) in
+        let o : opening_of y.book y.answer ≡ number 1 = refused_any x.book y.book y.answer (ap (opening_of x.book) (sym e) ∙ p) in
+        let g = both_of (opens_is x.reported ∙ ap (opening_in d) p) (opens_is y.reported ∙ ap (opening_in d) o) in
         (g.0, record { desk = λ i. desk_at (g.1 i) (q i) (r i) (s i) (t i); numbers = ap but_free g.1 })
-    go (both b₁ b₂ st₁ st₂ p q e _ _ _ _) =
+    go (both st₁ st₂ p q e _ _ _ _) =
         let f = opens_is x.reported ∙ ap (opening_in d) p in
         let g = opens_is y.reported ∙ ap (opening_in d) q in
-        let k : d₁ ≡ numbers_of b₁ st₁ = ap (λ (v : ℕ × List ℕ). v.1) f in
-        let l : d₂ ≡ numbers_of b₂ st₂ = ap (λ (v : ℕ × List ℕ). v.1) g in (
+        let k : d₁ ≡ numbers_of x.book st₁ = ap (λ (v : ℕ × List ℕ). v.1) f in
+        let l : d₂ ≡ numbers_of y.book st₂ = ap (λ (v : ℕ × List ℕ). v.1) g in (
           ap (λ (v : ℕ × List ℕ). v.0) f ∙ sym (ap (λ (v : ℕ × List ℕ). v.0) g),
           record {
-            desk = (λ i. desk_at (k i) rs₁ bd₁ ak₁ se₁) ∙ ((λ i. record { book = (e.desk i).book; stats = statistics_of (statistics_in (numbers_of b₁ (e.statistics i))) }) ∙ sym (λ i. desk_at (l i) rs₂ bd₂ ak₂ se₂));
+            desk = (λ i. desk_at (k i) rs₁ bd₁ ak₁ se₁) ∙ ((λ i. record { book = (e.desk i).book; stats = statistics_of (statistics_in (numbers_of x.book (e.statistics i))) }) ∙ sym (λ i. desk_at (l i) rs₂ bd₂ ak₂ se₂));
             numbers = ap but_free k ∙ (numbers_same e ∙ sym (ap but_free l));
           },
         )
@@ -235,12 +218,12 @@ begun_reads : {d rs bd ak se d' rs' bd' ak' se' : List ℕ} → OpenedAs d rs bd
 unfolding opening_in
 begun_reads {d} {rs} {bd} {ak} {se} {d'} {rs'} {bd'} {ak'} {se'} x = go x.makes
   where
-    go : Makes rule.hall rs bd ak se x.answer rs' bd' ak' se'
+    go : Makes rule.hall (stock (book_in d) rs bd ak se) x.answer (stock x.book rs' bd' ak' se')
         → (b : OrderBook) × (st : Statistics) × (d' ≡ numbers_of b st) × call.Begins rule.hall (stock b rs' bd' ak' se') st
-    go (call.short l p q r s t) = absurd (
+    go (call.short l p q) = absurd (
         let e : 0 ≡ 1 = ap (λ (v : ℕ × List ℕ). v.0) (opens_is x.reported ∙ ap (opening_in d) p) in
         let y : ⊥ = omega arith in y)
-    go (call.made l b st p g) = (b, st, ap (λ (v : ℕ × List ℕ). v.1) (opens_is x.reported ∙ ap (opening_in d) p), g)
+    go (call.made l st p g) = (x.book, st, ap (λ (v : ℕ × List ℕ). v.1) (opens_is x.reported ∙ ap (opening_in d) p), g)
 
 exported_long : {h : List (rule.Call (Unit {0}))} {d rs bd ak se : List ℕ} → Exported h d rs bd ak se → length d ≡ 12
 exported_long (begun x) = let r = begun_reads x in ap length r.2 ∙ numbers_long r.0 r.1
@@ -256,7 +239,7 @@ pub exported_reached : {h : List (rule.Call (Unit {0}))} {d rs bd ak se : List �
     → Reached rule.hall h (stock (book_in d) rs bd ak se) (statistics_in d)
 exported_reached {d = d} (begun x) =
     let r = begun_reads x in
-    let l : last_of r.1.last ≡ none = ap (λ (y : rule.Desk (Unit {0})). y.stats.last) r.3.desk in
+    let l : last_of r.1.last ≡ maybe.none = ap (λ (y : rule.Desk (Unit {0})). y.stats.last) r.3.desk in
     reached_at d (ap book_in r.2) (ap statistics_in r.2 ∙ numbers_statistics r.0 r.1 (subst HasDouble (sym l) tt)) (history.begun r.3)
 exported_reached {d = d} (called o r x) = let e = carried_reads x in reached_at d e.0 e.1 (history.called o (exported_reached r) x.executes)
 exported_reached {d = d} (switched {d = b} on r e) =

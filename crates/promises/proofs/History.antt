@@ -5,6 +5,7 @@ use mathlib.Core.Path.{◌≡◌, sym, ap, subst, ◌∙◌}
 use mathlib.Core.Bool.{Bool, true, false}
 use mathlib.Core.List.{List, ◌∷◌}
 use lib.ListN.{take}
+use Rattle.std.specs.Prelude.{Result, Ok}
 use Rattle.rules.specs.Rules as rule
 use Rattle.rules.specs.Turns.{Demand2}
 use Rattle.rules.specs.Late.{plain, Names, refuses, rests, Alike, Histories, unmark, turn, plainly}
@@ -12,8 +13,7 @@ use Rattle.rules.proofs.Demand2.{demand2}
 use Rattle.rules.proofs.Plain.{alone}
 use Rattle.models.specs.declared.OrderEvent.{OrderEvent}
 use Rattle.stats.specs.declared.Statistics.{Statistics}
-use Rattle.desk.specs.declared.Answer.{Answer}
-use Rattle.desk.specs.declared.Answer.TheVariants.{Done}
+use Rattle.models.specs.declared.Refusal.{Refusal}
 use Rattle.ledger.specs.Stock.{Stock}
 use Rattle.desk.specs.Stock.{read_desk}
 use Rattle.desk.specs.Performs.{answer_of}
@@ -38,12 +38,12 @@ reached_desk {z} (switched b r) = ap (λ (d : rule.Desk (Unit {0})). rule.after 
 
 -- ## demand 2
 
-accepted : (a : Answer) (l : List (rule.Fill (Unit {0}))) (v : OrderEvent) → a ≡ Done v → refuses (answer_of a l) ≡ false
+accepted : (a : Result OrderEvent Refusal) (l : List (rule.Fill (Unit {0}))) (v : OrderEvent) → a ≡ Ok v → refuses (answer_of a l) ≡ false
 accepted a l v e = rw e
 
 -- an accepted order on a whole stock follows the rules
-pub follows2 : {z : rule.Size} {k k' : Stock} {st st' : Statistics} {out out' : List ℕ} {a : Answer} (t : rule.Taker (Unit {0})) (v : OrderEvent) → WholeStock z k
-    → Executes z (rule.order t) k st out a k' st' out' → a ≡ Done v → Follows2 t k st out a k' st' out'
+pub follows2 : {z : rule.Size} {k k' : Stock} {st st' : Statistics} {out out' : List ℕ} {a : Result OrderEvent Refusal} (t : rule.Taker (Unit {0})) (v : OrderEvent) → WholeStock z k
+    → Executes z (rule.order t) k st out a k' st' out' → a ≡ Ok v → Follows2 t k st out a k' st' out'
 follows2 {z} {k} {k'} {st} {st'} {a = a} t v w x e =
     let s = answers w x in
     let l : List (rule.Fill (Unit {0})) = fills_by z (read_desk k st) (rule.order t) in
@@ -55,7 +55,7 @@ follows2 {z} {k} {k'} {st} {st'} {a = a} t v w x e =
 -- ## demand 3
 
 -- two books reached by public calls, after histories that differ by latecomers behind X alone, take the same order with equal room
-pub follows3 : {z : rule.Size} (N : ℕ → Bool) {h k : List (rule.Call Bool)} {s s' u u' : Stock} {st st' tt tt' : Statistics} {out out' put put' : List ℕ} {a b : Answer} (c : rule.Call (Unit {0}))
+pub follows3 : {z : rule.Size} (N : ℕ → Bool) {h k : List (rule.Call Bool)} {s s' u u' : Stock} {st st' tt tt' : Statistics} {out out' put put' : List ℕ} {a b : Result OrderEvent Refusal} (c : rule.Call (Unit {0}))
     → Histories z N true h k → rests (rule.end z h) ≡ true → Names N c → Alike z h k (plain c)
     → Reached z (unmark h) s st → Reached z (unmark k) u tt → Executes z c s st out a s' st' out' → Executes z c u tt put b u' tt' put'
     → Follows3 z h k c a b (fills_by z (read_desk s st) c) (fills_by z (read_desk u tt) c) (read_desk s' st') (read_desk u' tt')

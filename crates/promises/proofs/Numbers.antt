@@ -4,7 +4,8 @@ use native.Mathlib.Omega.{arith}
 use mathlib.Core.Path.{◌≡◌, refl, ap}
 use mathlib.Core.Bool.{Bool, true, false, not, cond}
 use mathlib.Core.List.{List, [], ◌∷◌}
-use mathlib.Core.Option.{Option, none, some}
+use mathlib.Core.Option as maybe
+use Rattle.std.specs.Prelude.{Option, Some, None}
 use lib.Dec.{eqb}
 use lib.IntN.{pos}
 use lib.Ieee.{Float, binary64, of_int}
@@ -12,8 +13,7 @@ use lib.Ieee.Bits.{of_bits-to_bits, of_bits-fits}
 use lib.Ieee.Fits.{div-fits}
 use lib.ListN.{length, get_or, set}
 use Rattle.rules.specs.Rules as rule
-use Rattle.stats.specs.declared.LastTrade.{LastTrade}
-use Rattle.stats.specs.declared.LastTrade.TheVariants.{Absent, Present}
+use Rattle.stats.specs.declared.Trade.{Trade}
 use Rattle.stats.specs.declared.Statistics.{Statistics}
 use Rattle.stats.specs.Statistics.{last_of}
 use Rattle.ledger.specs.declared.OrderBook.{OrderBook}
@@ -29,10 +29,10 @@ yes_back : (b : Bool) → not (eqb (yes b) 0) ≡ b
 yes_back true = refl
 yes_back false = refl
 
-last_back : (r f b a t v : ℕ) (l : LastTrade) → HasDouble (last_of l) → last_in (r ∷ f ∷ b ∷ a ∷ t ∷ v ∷ last_numbers l) ≡ l
-last_back r f b a t v Absent h = refl
-last_back r f b a t v (Present d) h =
-    ap (λ (x : Float). Present (record {
+last_back : (r f b a t v : ℕ) (l : Option Trade) → HasDouble (last_of l) → last_in (r ∷ f ∷ b ∷ a ∷ t ∷ v ∷ last_numbers l) ≡ l
+last_back r f b a t v None h = refl
+last_back r f b a t v (Some d) h =
+    ap (λ (x : Float). Some (record {
       total_qty = d.total_qty;
       avg_price = x;
       whole_avg_price = d.whole_avg_price;
@@ -54,16 +54,16 @@ numbers_statistics b st h =
 pub numbers_long : (b : OrderBook) (st : Statistics) → length (numbers_of b st) ≡ 12
 numbers_long b st = go st.last
   where
-    go : (l : LastTrade) → length (b.resting ∷ b.free ∷ b.bids ∷ b.asks ∷ yes st.tracking ∷ st.volume.0 ∷ last_numbers l) ≡ 12
-    go Absent = refl
-    go (Present t) = refl
+    go : (l : Option Trade) → length (b.resting ∷ b.free ∷ b.bids ∷ b.asks ∷ yes st.tracking ∷ st.volume.0 ∷ last_numbers l) ≡ 12
+    go None = refl
+    go (Some t) = refl
 
 -- ## every average is a double: one read from its bits, and one that the rules work out
 
 pub double_in : (d : List ℕ) → HasDouble (last_of (last_in d))
 double_in d = go (eqb (get_or d 6 0) 0)
   where
-    go : (b : Bool) → HasDouble (last_of (cond b Absent (Present (trade_in d))))
+    go : (b : Bool) → HasDouble (last_of (cond b None (Some (trade_in d))))
     go true = tt
     go false = of_bits-fits binary64 (get_or d 8 0)
 
@@ -77,9 +77,9 @@ pub double_after : (z : rule.Size) (d : rule.Desk (Unit {0})) (c : rule.Call (Un
 unfolding rule.perform rule.carried rule.stats_after
 double_after z d (rule.order t) h = go (rule.refusal z d t)
   where
-    go : (o : Option ℕ) → HasDouble (rule.verdict o d (rule.carried d t)).desk.stats.last
-    go none = double_traded d.stats.tracking _ _ _ _ d.stats h
-    go (some n) = h
+    go : (o : maybe.Option ℕ) → HasDouble (rule.verdict o d (rule.carried d t)).desk.stats.last
+    go maybe.none = double_traded d.stats.tracking _ _ _ _ d.stats h
+    go (maybe.some n) = h
 double_after z d (rule.cancel i) h = h
 double_after z d (rule.tracking b) h = h
 

@@ -3,9 +3,14 @@
 use Prim.Native.Nat.{ℕ, ◌+◌}
 use mathlib.Core.Path.{◌≡◌, sym, ap, ◌∙◌}
 use mathlib.Core.List.{List}
-use mathlib.Core.Option.{Option}
+use mathlib.Core.Option as maybe
 use lib.ListN.{length}
+use Rattle.std.specs.Prelude.{Option, Result}
 use Rattle.rules.specs.Rules as rule
+use Rattle.models.specs.declared.BookDepth.{BookDepth}
+use Rattle.models.specs.declared.OrderEvent.{OrderEvent}
+use Rattle.models.specs.declared.Price.{Price}
+use Rattle.depth.specs.declared.Lookup.{Lookup}
 use Rattle.stats.specs.declared.Statistics.{Statistics}
 use Rattle.stats.specs.Statistics.{statistics_of}
 use Rattle.rows.specs.Rows.{fill_row, level_row, places, written}
@@ -13,13 +18,10 @@ use Rattle.stats.proofs.Readings.{statistics_same}
 use Rattle.whole.proofs.Join.{whole_desk}
 use Rattle.whole.proofs.Desk.{desk_resting}
 use Rattle.depth.proofs.Desk.{bid_count, ask_count}
-use Rattle.desk.specs.declared.Answer.{Answer}
+use Rattle.models.specs.declared.Refusal.{Refusal}
 use Rattle.ledger.specs.Stock.{Stock}
 use Rattle.ledger.specs.Desk.{read_book}
 use Rattle.desk.specs.Stock.{read_desk}
-use Rattle.questions.specs.declared.Quoted.{Quoted}
-use Rattle.questions.specs.declared.Deep.{Deep}
-use Rattle.questions.specs.declared.Got.{Got}
 use Rattle.models.specs.Readings.{value}
 use Rattle.questions.specs.Answers.{got_of}
 use Rattle.whole.specs.Whole.{WholeStock}
@@ -56,7 +58,7 @@ same_here p q = record {
 -- ## every call on two stocks that read alike
 
 module _ {z : rule.Size} {k₁ k₂ : Stock} (w : WholeStock z k₁) (v : WholeStock z k₂) where
-  pub executes_alike : {c : rule.Call (Unit {0})} {k₁' k₂' : Stock} {st₁ st₂ st₁' st₂' : Statistics} {out out₁ out₂ : List ℕ} {a b : Answer}
+  pub executes_alike : {c : rule.Call (Unit {0})} {k₁' k₂' : Stock} {st₁ st₂ st₁' st₂' : Statistics} {out out₁ out₂ : List ℕ} {a b : Result OrderEvent Refusal}
       → read_desk k₁ st₁ ≡ read_desk k₂ st₂ → Executes z c k₁ st₁ out a k₁' st₁' out₁ → Executes z c k₂ st₂ out b k₂' st₂' out₂
       → Agree a b k₁' k₂' st₁' st₂' out₁ out₂
   executes_alike {c} {st₁ = st₁} {st₂ = st₂} {out = out} {a = a} {b = b} e x y =
@@ -71,14 +73,14 @@ module _ {z : rule.Size} {k₁ k₂ : Stock} (w : WholeStock z k₁) (v : WholeS
 
   module _ (e : read_book k₁ ≡ read_book k₂) where
     -- the same, where the statistics are one value
-    pub executes_alike_book : {c : rule.Call (Unit {0})} {k₁' k₂' : Stock} {st st₁' st₂' : Statistics} {out out₁ out₂ : List ℕ} {a b : Answer}
+    pub executes_alike_book : {c : rule.Call (Unit {0})} {k₁' k₂' : Stock} {st st₁' st₂' : Statistics} {out out₁ out₂ : List ℕ} {a b : Result OrderEvent Refusal}
         → Executes z c k₁ st out a k₁' st₁' out₁ → Executes z c k₂ st out b k₂' st₂' out₂ → Agree a b k₁' k₂' st₁' st₂' out₁ out₂
     executes_alike_book {st = st} x y = executes_alike (λ i. record { book = e i; stats = statistics_of st }) x y
 
-    pub tells_alike : {f : rule.Book (Unit {0}) → Option ℕ} {a b : Quoted} → Tells z f k₁ a → Tells z f k₂ b → a ≡ b
+    pub tells_alike : {f : rule.Book (Unit {0}) → maybe.Option ℕ} {a b : Result (Option Price) Refusal} → Tells z f k₁ a → Tells z f k₂ b → a ≡ b
     tells_alike {f} {a} {b} x y = quoted_same a b (tells w x ∙ (ap (λ (d : rule.Book (Unit {0})). value (f d)) e ∙ sym (tells v y)))
 
-    pub shows_alike : {n : ℕ} {out out₁ out₂ : List ℕ} {a b : Deep} → Shows z n k₁ out a out₁ → Shows z n k₂ out b out₂ → (a ≡ b) × (out₁ ≡ out₂)
+    pub shows_alike : {n : ℕ} {out out₁ out₂ : List ℕ} {a b : Result BookDepth Refusal} → Shows z n k₁ out a out₁ → Shows z n k₂ out b out₂ → (a ≡ b) × (out₁ ≡ out₂)
     shows_alike {n} {out = out} {a = a} {b = b} x y =
         let q : rule.Question = rule.depth n (places level_row out) in (
           deep_same a b ((shows w x).0 ∙ (ap (λ (d : rule.Book (Unit {0})). depth_in (reply_of d q)) e ∙ sym (shows v y).0)),
@@ -86,6 +88,6 @@ module _ {z : rule.Size} {k₁ k₂ : Stock} (w : WholeStock z k₁) (v : WholeS
         )
 
     -- the found order, the count excepted
-    pub finds_alike : {i : ℕ} {a b : Got} → Finds z i k₁ a → Finds z i k₂ b → uncounted (got_of a) ≡ uncounted (got_of b)
+    pub finds_alike : {i : ℕ} {a b : Result Lookup Refusal} → Finds z i k₁ a → Finds z i k₂ b → uncounted (got_of a) ≡ uncounted (got_of b)
     finds_alike {i} x y =
         ap uncounted (finds w x) ∙ (ap (λ (d : rule.Book (Unit {0})). value (order_in (reply_of d (rule.search i)))) e ∙ sym (ap uncounted (finds v y)))

@@ -1,5 +1,5 @@
 -- Books reached from a fresh one by public calls, each step meeting its contract; and the demands as they read for such books. Assumes nothing.
-use Rattle.std.specs.Prelude.{ℕ, ◌≡◌, Bool, true, List, [], ◌∷◌, take}
+use Rattle.std.specs.Prelude.{ℕ, ◌≡◌, Bool, true, List, [], ◌∷◌, take, Result, Ok}
 use Rattle.rules.specs.Rules as rule
 use Rattle.rules.specs.Turns.{Demand2}
 use Rattle.rules.specs.Late.{plain, fills_of, rests, turn, share, answer_to}
@@ -8,8 +8,7 @@ use Rattle.models.specs.declared.OrderEvent.{OrderEvent}
 use Rattle.stats.specs.declared.Statistics.{Statistics}
 use Rattle.models.specs.Readings.{call_of}
 use Rattle.rows.specs.Rows.{fill_row, places, written}
-use Rattle.desk.specs.declared.Answer.{Answer}
-use Rattle.desk.specs.declared.Answer.TheVariants.{Done}
+use Rattle.models.specs.declared.Refusal.{Refusal}
 use Rattle.ledger.specs.Stock.{Stock}
 use Rattle.desk.specs.Stock.{read_desk}
 use Rattle.desk.specs.Performs.{answer_of}
@@ -25,7 +24,7 @@ switch b st = record { tracking = b; volume = st.volume; last = st.last }
 -- the stock k and the statistics st after the history h of public calls, the latest call first
 pub data Reached (z : rule.Size) : List (rule.Call (Unit {0})) → Stock → Statistics → Type 0 where
   begun : {k : Stock} {st : Statistics} → Begins z k st → Reached z [] k st
-  called : {h : List (rule.Call (Unit {0}))} {k k' : Stock} {st st' : Statistics} {out out' : List ℕ} {a : Answer} (o : OrderType) → Reached z h k st
+  called : {h : List (rule.Call (Unit {0}))} {k k' : Stock} {st st' : Statistics} {out out' : List ℕ} {a : Result OrderEvent Refusal} (o : OrderType) → Reached z h k st
       → Executes z (call_with out o) k st out a k' st' out' → Reached z (call_with out o ∷ h) k' st'
   switched : {h : List (rule.Call (Unit {0}))} {k : Stock} {st : Statistics} (b : Bool) → Reached z h k st
       → Reached z (rule.tracking b ∷ h) k (switch b st)
@@ -35,12 +34,12 @@ abbrev pub fills_by : rule.Size → rule.Desk (Unit {0}) → rule.Call (Unit {0}
 fills_by z d c = fills_of (rule.perform z d c).answer
 
 -- the answer is the rules' answer, and the buffer has its fills (a refusal has none, and keeps the buffer)
-pub record Answers (z : rule.Size) (c : rule.Call (Unit {0})) (d : rule.Desk (Unit {0})) (out : List ℕ) (a : Answer) (out' : List ℕ) : Type 0 where
+pub record Answers (z : rule.Size) (c : rule.Call (Unit {0})) (d : rule.Desk (Unit {0})) (out : List ℕ) (a : Result OrderEvent Refusal) (out' : List ℕ) : Type 0 where
   pub same : answer_of a (fills_by z d c) ≡ (rule.perform z d c).answer
   pub buffer : out' ≡ written fill_row out 0 (fills_by z d c)
 
 -- demand 2 for the code: the fills stand in the buffer, and answer, book and statistics are what demand 2 asks
-pub record Follows2 (t : rule.Taker (Unit {0})) (k : Stock) (st : Statistics) (out : List ℕ) (a : Answer) (k' : Stock) (st' : Statistics) (out' : List ℕ)
+pub record Follows2 (t : rule.Taker (Unit {0})) (k : Stock) (st : Statistics) (out : List ℕ) (a : Result OrderEvent Refusal) (k' : Stock) (st' : Statistics) (out' : List ℕ)
     : Type 0 where
   pub fills : List (rule.Fill (Unit {0}))
   pub buffer : out' ≡ written fill_row out 0 fills
@@ -48,12 +47,12 @@ pub record Follows2 (t : rule.Taker (Unit {0})) (k : Stock) (st : Statistics) (o
 
 -- Demand 3 for the code: X rests after the histories h and k (marked as in the rules' statement), whose books are reached by public calls; the same order
 -- c comes to both, with equal room. a and b are its answers, l and m its fills (they stand in the buffers: `Answers`), d and e the desks afterwards.
-pub record Follows3 (z : rule.Size) (h k : List (rule.Call Bool)) (c : rule.Call (Unit {0})) (a b : Answer) (l m : List (rule.Fill (Unit {0})))
+pub record Follows3 (z : rule.Size) (h k : List (rule.Call Bool)) (c : rule.Call (Unit {0})) (a b : Result OrderEvent Refusal) (l m : List (rule.Fill (Unit {0})))
     (d e : rule.Desk (Unit {0})) : Type 0 where
   -- X stays or leaves alike
   pub leaves : rests (rule.end z (plain c ∷ h)) ≡ rests (rule.end z (plain c ∷ k))
   -- if X stays and the order is accepted, answer and fills are the same
-  pub answer : rests (rule.end z (plain c ∷ h)) ≡ true → (v : OrderEvent) → a ≡ Done v → answer_of a l ≡ answer_of b m
+  pub answer : rests (rule.end z (plain c ∷ h)) ≡ true → (v : OrderEvent) → a ≡ Ok v → answer_of a l ≡ answer_of b m
   -- If X stays, as many orders stand up to it on each side, and the same. On the side that X isn't on, `turn` is the whole length after each history:
   -- so that whole side is equal.
   pub turns : rests (rule.end z (plain c ∷ h)) ≡ true → (s : rule.Side)

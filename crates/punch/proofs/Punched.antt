@@ -3,7 +3,8 @@ use Rattle.std.proofs.Common.{◌≡◌, ℕ, ◌+◌, ◌≤◌, Bool, true, co
 use Rattle.models.specs.declared.OrderType.{OrderType}
 use Rattle.overlay.specs.Over.{Put, over}
 use Rattle.overlay.proofs.Over.{over_length}
-use Rattle.tape.specs.declared.Written.TheVariants.{Next, Refused}
+use Rattle.std.specs.Prelude.{Ok, Err}
+use Rattle.models.specs.declared.Refusal.TheVariants.{ShortRoom}
 use Rattle.tape.specs.Orders.{tag_for, field_of, written_at, written_to}
 use Rattle.tape.proofs.Tags.{field_length, value_most}
 
@@ -14,14 +15,10 @@ module _ (l : List ℕ) (at : ℕ) (o : OrderType) (h : at + 28 ≤ length l) wh
   yes : leb (at + length (field_of o)) (length l) ≡ true
   yes = le-leb _ _ fits
 
-  is_next : written_at l at o ≡ Next (at + length (field_of o))
-  is_next = ap (λ (b : Bool). cond b (Next (at + length (field_of o))) (Refused 19)) yes
+  pub is_next : written_at l at o ≡ Ok (at + length (field_of o))
+  is_next = ap (λ (b : Bool). cond b (Ok (at + length (field_of o))) (Err ShortRoom)) yes
 
-  pub was_put : (l' : List ℕ) (r : ℕ) → Next r ≡ written_at l at o → l' ≡ written_to l at o → Put l at (field_of o) l' r
+  pub was_put : (l' : List ℕ) (r : ℕ) → r ≡ at + length (field_of o) → l' ≡ written_to l at o → Put l at (field_of o) l' r
   was_put l' r e f =
-      let n : r ≡ at + length (field_of o) = cc is_next in
       let g : l' ≡ over l at (field_of o) = f ∙ rw yes in
-      record { fits = fits; next = n; long = ap length g ∙ over_length l at (field_of o) fits; laid = g }
-
-  pub is_never_refused : (n : ℕ) → Refused n ≡ written_at l at o → ⊥
-  is_never_refused n e = let z : ◌≡◌ {A = ℕ} 0 1 = cc is_next in omega arith
+      record { fits = fits; next = e; long = ap length g ∙ over_length l at (field_of o) fits; laid = g }

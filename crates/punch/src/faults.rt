@@ -1,34 +1,37 @@
-// What is said on standard error of a bad line: its number, its first wrong word, and what is wrong.
-use crate::words::State;
+// What is wrong with a line, and what is said of it on standard error: the line's number, its first wrong word, and what is wrong.
+
+// A word that is not what it should be; or the whole line isn't.
+#[derive(Clone, Copy)]
+pub enum Fault<'a> {
+    NoKind(&'a [u8]),
+    NoSide(&'a [u8]),
+    NoNumber(&'a [u8]),
+    TooLarge(&'a [u8]),
+    TooMany(&'a [u8]),
+    TooFew,
+    TooLong,
+}
 
 fn put(err: &impl Print, text: &[u8]) {
     let _ = err.write_all(text);
 }
 
-// What is wrong with a word, or with the whole line.
-fn put_fault(err: &impl Print, state: State) {
-    match state {
-        State::NoKind => put(err, b"' is no kind of order\n"),
-        State::NoSide => put(err, b"' is no side\n"),
-        State::NoNumber => put(err, b"' is no number\n"),
-        State::TooLarge => put(err, b"' is above 18446744073709551615\n"),
-        State::TooLong => put(err, b"longer than 4096 bytes\n"),
-        State::TooFew => put(err, b"too few words\n"),
-        _ => put(err, b"' is a word too many\n"),
-    }
+// A word may be any bytes, so it isn't printed as text.
+fn put_word(err: &impl Print, word: &[u8], fault: &[u8]) {
+    put(err, b"'");
+    put(err, word);
+    put(err, fault);
 }
 
-fn put_word(err: &impl Print, word: &[u8]) {
-    if word.len() > 0 {
-        put(err, b"'");
-        put(err, word);
+pub fn say(err: &impl Print, line: u64, fault: Fault<'_>) {
+    let _ = print!(err; "punch: line {line}: ");
+    match fault {
+        Fault::NoKind(word) => put_word(err, word, b"' is no kind of order\n"),
+        Fault::NoSide(word) => put_word(err, word, b"' is no side\n"),
+        Fault::NoNumber(word) => put_word(err, word, b"' is no number\n"),
+        Fault::TooLarge(word) => put_word(err, word, b"' is above 18446744073709551615\n"),
+        Fault::TooMany(word) => put_word(err, word, b"' is a word too many\n"),
+        Fault::TooFew => put(err, b"too few words\n"),
+        Fault::TooLong => put(err, b"longer than 4096 bytes\n"),
     }
-}
-
-pub fn wrong(err: &impl Print, line: u64, word: &[u8], state: State) {
-    put(err, b"punch: line ");
-    let _ = err.print(line);
-    put(err, b": ");
-    put_word(err, word);
-    put_fault(err, state);
 }

@@ -4,36 +4,44 @@
 // length, a line of up to 4,096 bytes. A program here gives no exit status.
 #![tactic(auto)]
 
-mod faults; // faults.rt: what is said of a bad line
+mod faults; // faults.rt: what is wrong with a line
 mod line; // line.rt: a line's order
 mod output; // output.rt: the tape that goes out
-mod run; // run.rt: a run, turn by turn
-mod words; // words.rt: a line's words and numbers
+mod text; // text.rt: the lines that come in
+mod words; // words.rt: what a word means
 
-use run::{ROOM, begun, turn, written};
-use stream::{Input, open_source};
+use line::read_line;
+use output::Tape;
+use stream::{Failed, Source};
+use text::Text;
 
 // No file has a longer name.
 const NAME: usize = 4096;
 
-// The turns are counted, so that the run ends whatever comes in.
-fn punch(rt: &HostRuntime, from: &mut Input, name: &[u8]) {
-    let mut text = [0u8; ROOM];
-    let mut tape = [0u8; ROOM];
-    let mut run = begun();
-    let mut turns = u64::MAX;
-    while turns > 0 && !run.over {
-        run = turn(rt, from, name, &mut text, &mut tape, run);
-        turns -= 1;
+// The orders of a text go onto a tape, up to the first bad line. The lines are counted, so that the run ends whatever comes in.
+fn punch(rt: &HostRuntime, text: &mut Text<'_>, tape: &mut Tape) -> Result<(), Failed> {
+    for number in 1..=u64::MAX {
+        let Some(line) = text.next_line(&rt.stderr())? else {
+            break;
+        };
+        match read_line(line) {
+            Ok(Some(order)) => tape.punch(rt, order)?,
+            Ok(None) => {}
+            Err(fault) => {
+                faults::say(&rt.stderr(), number, fault);
+                break;
+            }
+        }
     }
-    written(rt, &tape, run);
+    Ok(())
 }
 
 fn main(rt: HostRuntime) {
     let mut name = [0u8; NAME];
-    let source = open_source(&rt, &mut name);
-    let length = source.name;
-    if let Some(mut from) = source.input {
-        punch(&rt, &mut from, &name[..length]);
+    if let Ok(source) = Source::open(&rt, &mut name) {
+        let mut text = Text::new(source);
+        let mut tape = Tape::new();
+        let _ = punch(&rt, &mut text, &mut tape);
+        let _ = tape.write(&rt);
     }
 }

@@ -1,22 +1,24 @@
 -- How each question comes to its contract, on a whole stock through what the doors know of it. Assumes nothing.
 use Prim.Native.Nat.{ℕ, ◌+◌, ◌≤◌, ◌<◌}
 use native.Mathlib.Omega.{arith}
-use mathlib.Core.Path.{◌≡◌, refl, sym, ap, ◌∙◌}
+use mathlib.Core.Path.{◌≡◌, sym, ap, ◌∙◌}
 use mathlib.Core.Bool.{Bool, true, false, not}
 use mathlib.Core.List.{List, reverse}
-use mathlib.Core.Option.{Option, none, some}
+use mathlib.Core.Option as maybe
+use mathlib.Core.Option.{none, some}
 use lib.Dec.{ltb}
 use lib.ListN.{length, length-reverse}
 use borrow.Author.Tests.{le-ltb, lt-ltb, not-true, not-false}
+use Rattle.std.specs.Prelude.{Option}
 use Rattle.rules.specs.Rules as rule
 use Rattle.rules.specs.Rules.{any_above, first_of, levels, most, reply}
 use Rattle.rules.proofs.Turns.{best_apart}
+use Rattle.models.specs.declared.Price.{Price}
 use Rattle.models.specs.Readings.{Reading, value}
 use Rattle.ledger.specs.Stock.{Stock}
 use Rattle.ledger.specs.Desk.{LedgerIn, found, read_book, stored_book}
 use Rattle.whole.specs.Whole.{WholeStock}
 use Rattle.whole.proofs.Join.{whole_book}
-use Rattle.depth.specs.declared.Quote.{Quote}
 use Rattle.depth.specs.Answers.{quote_of}
 use Rattle.depth.proofs.Desk.{standing_bids, bid_count, ask_count}
 use Rattle.depth.proofs.Levels.{levels_ascending}
@@ -25,15 +27,8 @@ use Rattle.questions.specs.Questions.{lowest_ask, highest_bid, Below}
 
 -- ## quotes
 
-pub below : {z : rule.Size} (k : Stock) → WholeStock z k → (b a : Quote) → quote_of b ≡ highest_bid (read_book k) → quote_of a ≡ lowest_ask (read_book k) → Below b a
+pub below : {z : rule.Size} (k : Stock) → WholeStock z k → (b a : Option Price) → quote_of b ≡ highest_bid (read_book k) → quote_of a ≡ lowest_ask (read_book k) → Below b a
 below k w b a e f p q x y = best_apart (read_book k) (whole_book w).orderly p q (sym e ∙ x) (sym f ∙ y)
-
-pub no_bid : (o : Option ℕ) → none ≡ rule.spread none o
-no_bid none = refl
-no_bid (some a) = refl
-
-pub spread_same : (b a q : Quote) {x y : Option ℕ} → quote_of q ≡ rule.spread (quote_of b) (quote_of a) → quote_of b ≡ x → quote_of a ≡ y → quote_of q ≡ rule.spread x y
-spread_same b a q h e f = h ∙ (λ i. rule.spread (e i) (f i))
 
 -- ## depth
 
@@ -82,7 +77,7 @@ small_at {x = x} h e = not-true x (sym h ∙ e)
 
 -- ## the search for an id
 
-pub search_found : (b : rule.Book (Unit {0})) (i : ℕ) (st : rule.Stats) {o : Option (ℕ × ℕ)} → o ≡ rule.lookup i b.bids (rule.lookup i b.asks none)
+pub search_found : (b : rule.Book (Unit {0})) (i : ℕ) (st : rule.Stats) {o : maybe.Option (ℕ × ℕ)} → o ≡ rule.lookup i b.bids (rule.lookup i b.asks none)
     → reply (record { book = b; stats = st }) (rule.search i) ≡ rule.found o
 unfolding reply
 search_found b i st e = ap rule.found (sym e)

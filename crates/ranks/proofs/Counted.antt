@@ -2,7 +2,7 @@
 use Prim.Native.Nat.{suc, zero, ℕ, ◌+◌, ◌-◌, ◌<◌, ◌≤◌}
 use mathlib.Core.List.{List, append_assoc, append-nil, ◌++◌}
 use mathlib.Core.Logic.{◌≢◌, ⊎_elim}
-use mathlib.Core.Path.{ap, refl, sym, ◌∙◌, ◌≡◌}
+use mathlib.Core.Path.{ap, sym, ◌∙◌, ◌≡◌}
 use native.Mathlib.Omega.{arith}
 use lib.ListN.{length, length-append}
 use Rattle.records.specs.Rows.{record_count}
@@ -13,7 +13,7 @@ use Rattle.side.specs.Levels.{ups}
 use Rattle.side.specs.Read.{levels_from, levels_in}
 use Rattle.table.specs.Entries.{found_among}
 use Rattle.ranks.specs.declared.Tally.{Tally}
-use Rattle.ranks.specs.Ranks.{QueueAt, Rises, SideRight, Totals, Walks, walked}
+use Rattle.ranks.specs.Ranks.{QueueAt, Rises, SideRight, Counts, walked}
 use Rattle.ranks.proofs.Queues.{found_append, found_few, queue_walk, walk_queue}
 
 -- ## The orders of the first rows
@@ -57,9 +57,6 @@ module _ (rs lv : List ℕ) where
 -- ## Counting row by row
 
 module _ (rs lv : List ℕ) where
-  side_none : SideRight rs lv 0
-  side_none = record { queue = λ i h. absurd (let z : ⊥ = omega arith in z); rises = λ i h. absurd (let z : ⊥ = omega arith in z) }
-
   side_more : (i : ℕ) → SideRight rs lv i → Rises lv i → QueueAt rs (price_of lv i) (head_of lv i) (tail_of lv i) → SideRight rs lv (i + 1)
   side_more i s u q = record {
     queue = λ j b. ⊎_elim (λ (w : j ≡ i). rw w q) (λ (w : j ≢ i). s.queue j (omega arith)) (same? j i);
@@ -74,10 +71,6 @@ module _ (rs lv : List ℕ) where
       let w = queue_walk rs (price_of lv i) (head_of lv i) (tail_of lv i) (most - sum) (omega arith) q (omega (arith, levels_more rs lv i, levels_first rs lv (i + 1) n (omega arith))) in
       omega (arith, w, q.busy)
 
-module _ (se rs lv : List ℕ) where
-  pub totals_no : (n most : ℕ) (r : Tally) → r.orders ≡ most + 1 → (SideRight rs lv n → length (ups (levels_in rs lv n)) ≤ most → ⊥) → Totals se rs lv n most r
-  totals_no n most r e h = record { yea = λ l. absurd (let z : ⊥ = omega arith in z); nay = λ _. h }
-
 -- i rows of n are counted, with `sum` orders, `found` of them found
 pub record Going (se rs lv : List ℕ) (n most sum found i : ℕ) : Type 0 where
   pub below : i ≤ n
@@ -87,27 +80,19 @@ pub record Going (se rs lv : List ℕ) (n most sum found i : ℕ) : Type 0 where
   pub seen : found_among se rs (ups (levels_in rs lv i)) ≡ found
 
 module _ (se rs lv : List ℕ) (n most : ℕ) where
-  pub going_start : Going se rs lv n most 0 0 0
-  going_start = record { below = omega arith; within = omega arith; side = side_none rs lv; total = refl; seen = refl }
-
   module _ (sum found i : ℕ) (g : Going se rs lv n most sum found i) where
     -- no more are found than there are
     pub going_few : found ≤ sum
     going_few = omega (arith, g.seen, g.total, found_few se rs (ups (levels_in rs lv i)))
 
-    pub going_on : (q : Tally) → i < n → most ≤ record_count rs → Rises lv i → Walks se rs (price_of lv i) (head_of lv i) (tail_of lv i) (most - sum) q → q.orders ≢ 0
+    pub going_on : (q : Tally) → i < n → most ≤ record_count rs → Rises lv i → Counts se rs (price_of lv i) (head_of lv i) (tail_of lv i) (most - sum) q
         → Going se rs lv n most (sum + q.orders) (found + q.found) (i + 1)
-    going_on q h l u e z =
-        let w = walk_queue rs (price_of lv i) (head_of lv i) (tail_of lv i) (most - sum) (omega arith) (omega (arith, e.orders)) in
+    going_on q h l u e =
+        let w = walk_queue rs (price_of lv i) (head_of lv i) (tail_of lv i) (most - sum) (omega arith) (omega (arith, e.orders, e.some)) in
         record {
           below = omega arith;
           within = omega (arith, e.within, g.within);
           side = side_more rs lv i g.side u w.queue;
           total = omega (arith, levels_more rs lv i, w.long, g.total, e.orders);
-          seen = omega (arith, found_more rs lv se i, ap (found_among se rs) w.same, g.seen, e.found (omega arith));
+          seen = omega (arith, found_more rs lv se i, ap (found_among se rs) w.same, g.seen, e.found);
         }
-
-    pub going_end : n ≤ i → Totals se rs lv n most (record { orders = sum; found = found })
-    going_end h =
-        let e : i ≡ n = omega (arith, g.below) in
-        record { yea = λ _. (rw (← e) g.side, rw (← e) g.total, rw (← e) g.seen); nay = λ k _ _. omega (arith, g.within) }

@@ -20,7 +20,7 @@ use Rattle.arena.specs.Times.{times}
 use Rattle.arena.proofs.Free.{run_chain}
 use Rattle.arena.proofs.Times.{one_other, one_self}
 use Rattle.table.specs.Entries.{found_among}
-use Rattle.ranks.specs.Ranks.{QueueAt, Under, Walks, fit, walked}
+use Rattle.ranks.specs.Ranks.{QueueAt, Under, fit, walked}
 
 -- ## Chains
 
@@ -117,9 +117,6 @@ module _ (rs : List ℕ) (price tail : ℕ) where
   walked_on k j p zero n h e f = absurd (h refl)
   walked_on k j p (suc r) n h e f = rw (e, f)
 
-  pub walked_start : (m p c n : ℕ) → walked rs price tail m p c n ≡ walked rs price tail (m - 0) p c n
-  walked_start m p c n = let e : m - 0 ≡ m = omega arith in rw e
-
   -- a turn of the walk that has counted n of at most m
   pub walked_turn : (m p c n d : ℕ) → c ≢ 0 → n < m → fit rs price p c ≡ true → d ≡ field rs 3 c → walked rs price tail (m - n) p c n ≡ walked rs price tail (m - (n + 1)) c d (n + 1)
   walked_turn m p c n d h l f e = rw e (walked_on (m - n) (m - (n + 1)) p c n h (omega arith) f)
@@ -204,9 +201,6 @@ pub record Seen (se rs : List ℕ) (head most n found c : ℕ) : Type 0 where
   pub few : found ≤ n
   pub all : found + found_among se rs (chain (most - n) rs c) ≡ found_among se rs (chain most rs head)
 
-pub seen_start : (se rs : List ℕ) (head most : ℕ) → Seen se rs head most 0 0 head
-seen_start se rs head most = let e : most - 0 ≡ most = omega arith in record { few = omega arith; all = rw e (omega arith) }
-
 chain_turn : (rs : List ℕ) (k j c : ℕ) → c ≢ 0 → k ≡ suc j → chain k rs c ≡ c ∷ chain j rs (field rs 3 c)
 chain_turn rs k j zero h e = absurd (h refl)
 chain_turn rs k j (suc r) h e = rw e
@@ -244,7 +238,3 @@ found_few se rs (c ∷ l) = go (eqb (entry_for se rs (field rs 0 c)) c) (found_f
 pub found_append : (se rs l m : List ℕ) → found_among se rs (l ++ m) ≡ found_among se rs l + found_among se rs m
 found_append se rs [] m = omega arith
 found_append se rs (c ∷ l) m = omega (arith, found_append se rs l m)
-
--- a walk that counts nothing
-pub walks_none : (se rs : List ℕ) (price head tail most : ℕ) → walked rs price tail most 0 head 0 ≡ 0 → Walks se rs price head tail most (record { orders = 0; found = 0 })
-walks_none se rs price head tail most e = record { orders = sym e; within = omega arith; found = λ h. absurd (let z : ⊥ = omega arith in z) }

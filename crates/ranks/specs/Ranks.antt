@@ -1,5 +1,5 @@
 -- What the parts of the check of queues and sides answer: the queue of a price, the rows of a side, and sides that lie apart. Assumes nothing.
-use Rattle.std.specs.Prelude.{suc, zero, ℕ, ◌+◌, ◌-◌, ◌<◌, ◌≤◌, Bool, cond, false, List, ◌≡◌, eqb, leb, length}
+use Rattle.std.specs.Prelude.{suc, zero, ℕ, ◌+◌, ◌-◌, ◌<◌, ◌≤◌, Bool, cond, false, List, MatchOption, Option, ◌≡◌, eqb, leb, length}
 use Rattle.records.specs.Rows.{RecordAt, field, record_count}
 use Rattle.arena.specs.Free.{chain}
 use Rattle.arena.specs.Links.{head_of, link, price_of, tail_of}
@@ -35,11 +35,16 @@ walked rs price tail zero p (suc r) n = 0
 walked rs price tail (suc k) p zero n = cond (eqb p tail) n 0
 walked rs price tail (suc k) p (suc r) n = cond (fit rs price p (suc r)) (walked rs price tail k (suc r) (field rs 3 (suc r)) (n + 1)) 0
 
--- so many orders a walk of at most `most` counts, and so many of them the search finds
-pub record Walks (se rs : List ℕ) (price head tail most : ℕ) (r : Tally) : Type 0 where
-  pub orders : r.orders ≡ walked rs price tail most 0 head 0
-  pub within : r.orders ≤ most
-  pub found : 1 ≤ r.orders → r.found ≡ found_among se rs (chain most rs head)
+-- t has the orders that a walk of at most `most` counts, at least one, and how many of them the search finds
+pub record Counts (se rs : List ℕ) (price head tail most : ℕ) (t : Tally) : Type 0 where
+  pub some : 1 ≤ t.orders
+  pub within : t.orders ≤ most
+  pub orders : t.orders ≡ walked rs price tail most 0 head 0
+  pub found : t.found ≡ found_among se rs (chain most rs head)
+
+-- what a walk of at most `most` counts; nothing where it counts none
+abbrev pub Walks : List ℕ → List ℕ → ℕ → ℕ → ℕ → ℕ → Option Tally → Type 0
+Walks se rs price head tail most r = MatchOption r (walked rs price tail most 0 head 0 ≡ 0) (Counts se rs price head tail most)
 
 -- ## Sides
 
@@ -52,10 +57,16 @@ pub record SideRight (rs lv : List ℕ) (n : ℕ) : Type 0 where
   pub queue : (i : ℕ) → i < n → QueueAt rs (price_of lv i) (head_of lv i) (tail_of lv i)
   pub rises : (i : ℕ) → i < n → Rises lv i
 
--- r has the number of their orders, or more than `most` where they are wrong or have more; and how many of them the search finds
-pub record Totals (se rs lv : List ℕ) (n most : ℕ) (r : Tally) : Type 0 where
-  pub yea : r.orders ≤ most → SideRight rs lv n × (length (ups (levels_in rs lv n)) ≡ r.orders) × (found_among se rs (ups (levels_in rs lv n)) ≡ r.found)
-  pub nay : most < r.orders → SideRight rs lv n → length (ups (levels_in rs lv n)) ≤ most → ⊥
+-- they are right, t has the number of their orders, at most `most`, and how many of them the search finds
+pub record SideCounts (se rs lv : List ℕ) (n most : ℕ) (t : Tally) : Type 0 where
+  pub right : SideRight rs lv n
+  pub within : t.orders ≤ most
+  pub orders : length (ups (levels_in rs lv n)) ≡ t.orders
+  pub found : found_among se rs (ups (levels_in rs lv n)) ≡ t.found
+
+-- what there is to count; nothing where they are wrong or have more than `most`
+abbrev pub Totals : List ℕ → List ℕ → List ℕ → ℕ → ℕ → Option Tally → Type 0
+Totals se rs lv n most r = MatchOption r (SideRight rs lv n → length (ups (levels_in rs lv n)) ≤ most → ⊥) (SideCounts se rs lv n most)
 
 -- the highest bid is below the lowest ask
 abbrev pub Parted : List ℕ → List ℕ → ℕ → ℕ → Type 0

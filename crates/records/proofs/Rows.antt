@@ -1,8 +1,8 @@
 -- What a write does to the columns and to the number of records. Assumes nothing.
-use Prim.Native.Nat.{ℕ, ◌*◌, ◌+◌, ◌-◌, ◌/◌, ◌<◌, ◌≤◌}
+use Prim.Native.Nat.{ℕ, ◌*◌, ◌+◌, ◌-◌, ◌<◌, ◌≤◌}
 use mathlib.Core.List.{List}
 use mathlib.Core.Logic.{◌≢◌}
-use mathlib.Core.Path.{ap, ◌≡◌}
+use mathlib.Core.Path.{◌≡◌}
 use native.Mathlib.Omega.{arith}
 use lib.ListN.{length, length-set}
 use lib.Seq.{get_or-set_other, get_or-set_same}
@@ -23,9 +23,6 @@ field_record rs f g c d v h i p q n = get_or-set_other rs ((c - 1) * 5 + f) ((d 
 -- lengths stay, and with them the records
 pub put_length : (rs : List ℕ) (f c v : ℕ) → length (put rs f c v) ≡ length rs
 put_length rs f c v = length-set rs ((c - 1) * 5 + f) v
-
-pub put_places : (rs : List ℕ) (f c v : ℕ) → record_count (put rs f c v) ≡ record_count rs
-put_places rs f c v = ap (λ (n : ℕ). n / 5) (put_length rs f c v)
 
 pub row_length : {rs : List ℕ} (ss : List ℕ) {c : ℕ} → length ss ≡ length rs → RecordAt rs c → RecordAt ss c
 row_length ss e r = record { some = r.some; inside = omega (arith, r.inside) }

@@ -1,5 +1,6 @@
 // The records of a book: rows of five numbers in lent storage, read and written here and nowhere else.
 // A record is named by its code, its row + 1; code 0 is none.
+// Codes and columns stay numbers: they are what is stored, in storage that the C interface lends (felavuti_fresh and every call after it).
 #![tactic(auto)]
 
 ghost use Rattle.std.specs.Prelude.{◌≡◌, ℕ, ◌*◌, ◌<◌, ◌≤◌, length};
@@ -27,6 +28,7 @@ pub fn load(records: &[u64], f: usize, c: u64) -> u64
 }
 
 // The same, for a walk that keeps beside a record's code where its row ends.
+// Stays beside `load`: by codes alone the check of a book whose places are free takes 3.3 microseconds, by ends 1.5.
 pub fn load_before(records: &[u64], f: usize, end: usize) -> u64
     requires { (f < 5) × (5 ≤ end) × (end ≤ length records.now) }
     ensures { (c : ℕ) → 1 ≤ c → end ≡ c * 5 → result ≡ field records.now f c }

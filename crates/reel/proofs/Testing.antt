@@ -2,13 +2,13 @@
 use Prim.Native.Nat.{ℕ, ◌≤◌}
 use mathlib.Core.Path.{◌≡◌, refl}
 use mathlib.Core.Bool.{Bool, true, false}
-use mathlib.Core.Logic.{inl, inr}
+use mathlib.Core.Logic.{◌⊎◌, inl, inr}
 use native.Mathlib.Omega.{arith}
 use lib.Dec.{leb}
 use borrow.Author.Tests.{leb-true, leb-false}
 use Rattle.tape.specs.Orders.{longest_field}
 use Rattle.serve.specs.declared.State.{State}
-use Rattle.serve.specs.declared.State.TheVariants.{Going}
+use Rattle.serve.specs.declared.State.TheVariants.{Going, Stopped, Ended}
 use Rattle.reel.specs.Reel.{Handed, yes, no, GoesOn, on, off}
 
 pub handed : (last : Bool) (hand : ℕ) → last ≡ false → Handed last hand (leb longest_field hand)
@@ -18,10 +18,10 @@ handed last hand e = go (leb longest_field hand) refl
     go true h = yes (inr (leb-true longest_field hand h))
     go false h = no e (leb-false longest_field hand h)
 
-pub not_handed : {s : State} {last : Bool} {hand left room : ℕ} (r : Bool) → Handed last hand r → r ≡ false → GoesOn s last hand left room false
-not_handed true h e = absurd (let z : ◌≡◌ {A = ℕ} 0 1 = cc in let x : ⊥ = omega arith in x)
-not_handed false (no l h) e = off (λ g. inl (l, h))
+pub allowed : {s : State} {last : Bool} {hand left room : ℕ} {r : Bool} → Handed last hand r → s ≡ Going → room ≤ left → GoesOn s last hand left room r
+allowed (yes h) g l = on g h l
+allowed (no e h) g l = off (λ k. inl (e, h))
 
-pub goes : {s : State} {last : Bool} {hand left room : ℕ} (r : Bool) → Handed last hand r → r ≡ true → room ≤ left → s ≡ Going → GoesOn s last hand left room true
-goes true (yes h) e l g = on g h l
-goes false h e l g = absurd (let z : ◌≡◌ {A = ℕ} 0 1 = cc in let x : ⊥ = omega arith in x)
+pub ended : {s : State} → (s ≡ Stopped) ⊎ (s ≡ Ended) → s ≡ Going → ⊥
+ended (inl e) g = let z : ◌≡◌ {A = ℕ} 0 1 = cc in omega arith
+ended (inr e) g = let z : ◌≡◌ {A = ℕ} 0 1 = cc in omega arith

@@ -1,40 +1,55 @@
-// An order out of standard input: five numbers of 8 bytes, low byte first: kind, side, id, quantity, price (crate script says what they mean).
-ghost use Rattle.std.specs.Prelude.{◌+◌, ◌≤◌};
-
-use script::Step;
+// A step out of standard input: five numbers of 8 bytes, low byte first: kind, side, id, quantity, price. What a kind hasn't may be anything; a cancel has no
+// side, and of tracking 0 is off and 1 is on.
+use models::{OrderType, Side};
+use script::{cancel, limit, market};
+use std::fmt;
 use std::io::Read;
+
+// The kinds, as the stored input has them.
+const MARKET: u64 = 0;
+
+const LIMIT: u64 = 1;
+
+const CANCEL: u64 = 2;
+
+const TRACKING: u64 = 3;
 
 const NUMBER: usize = 8;
 
-const ORDER: usize = 40;
+const NUMBERS: usize = 5;
 
-// A step, or no more of them.
+const STEP: usize = NUMBERS * NUMBER;
+
+// An order or a cancel; or tracking switched on or off.
 #[derive(Clone, Copy)]
-pub enum Reading {
-    Came(Step),
-    Ended,
+pub enum Step {
+    Order(OrderType),
+    Tracking(bool),
 }
 
-// What came of reading so many bytes: all of them; none, at the end; only some; or an error.
+// What is wrong with a step.
 #[derive(Clone, Copy)]
-enum Bytes {
-    All,
-    Ended,
+pub enum Fault {
+    Unknown,
     Cut,
     Failed,
 }
 
-// What is wrong with order n.
-fn complain(err: &impl Print, n: u64, what: &[u8]) {
-    let _ = err.write_all(b"replay: order ");
-    let _ = err.print(n);
-    let _ = err.write_all(what);
+impl fmt::Display for Fault {
+    fn fmt<W: fmt::Write>(&self, f: &mut fmt::Formatter<W>) -> fmt::Result {
+        f.write_str(match self {
+            Fault::Unknown => ": no such kind or side",
+            Fault::Cut => " is cut off",
+            Fault::Failed => " could not be read",
+        })
+    }
 }
 
-// Reads until all bytes are there, the input ends or a read fails; how many came.
-fn read_full(from: &mut impl Read, bytes: &mut [u8; ORDER]) -> usize {
+// Reads until all bytes are there, the input ends or a read fails; how many came. It counts by what each read brings, so it stays a `while`: std's
+// `read_exact` doesn't say how many came before an error.
+fn read_full(from: &mut impl Read, bytes: &mut [u8]) -> usize {
     let mut done = 0;
-    while done < ORDER {
+    while done < bytes.len() {
         match from.read(&mut bytes[done..]) {
             Ok(0) | Err(_) => break,
             Ok(n) => done += n,
@@ -43,78 +58,39 @@ fn read_full(from: &mut impl Read, bytes: &mut [u8; ORDER]) -> usize {
     done
 }
 
-// Bytes of an order. Where some are missing, one more read tells the end of the input from an error.
-fn read_bytes(from: &mut impl Read, bytes: &mut [u8; ORDER]) -> Bytes {
-    let got = read_full(from, bytes);
-    if got == ORDER {
-        return Bytes::All;
+// The numbers of a step. Where some of their bytes are missing, one more read tells the end of the input from an error.
+fn read_numbers(from: &mut impl Read) -> Result<Option<[u64; NUMBERS]>, Fault> {
+    let mut numbers = [[0u8; NUMBER]; NUMBERS];
+    let got = read_full(from, numbers.as_flattened_mut());
+    if got == STEP {
+        return Ok(Some(numbers.map(u64::from_le_bytes)));
     }
-    let mut beyond = [0u8; 1];
-    match from.read(&mut beyond) {
-        Err(_) => Bytes::Failed,
-        Ok(more) => {
-            if got == 0 && more == 0 {
-                Bytes::Ended
-            } else {
-                Bytes::Cut
-            }
-        }
+    match from.read(&mut [0u8; 1]) {
+        Ok(0) if got == 0 => Ok(None),
+        Ok(_) => Err(Fault::Cut),
+        Err(_) => Err(Fault::Failed),
     }
 }
 
-fn wide(x: u8) -> u64 {
-    x as u64
-}
-
-// The number whose 8 bytes start at a place, low byte first.
-fn number_at(bytes: &[u8; ORDER], at: usize) -> u64
-    requires { at + 8 ≤ 40 }
-{
-    let mut n = 0;
-    let mut k = NUMBER;
-    while k > 0 {
-        k -= 1;
-        n = n << 8 | wide(bytes[at + k]);
+// What five numbers mean.
+fn step_of(numbers: [u64; NUMBERS]) -> Result<Step, Fault> {
+    let [kind, side, id, qty, price] = numbers;
+    if kind == CANCEL {
+        return Ok(Step::Order(cancel(id)));
     }
-    n
-}
-
-fn step_in(bytes: &[u8; ORDER]) -> Step {
-    script::step_of(
-        number_at(bytes, 0),
-        number_at(bytes, NUMBER),
-        number_at(bytes, 2 * NUMBER),
-        number_at(bytes, 3 * NUMBER),
-        number_at(bytes, 4 * NUMBER),
-    )
-}
-
-// A step that means something, or none and a line that says so.
-fn known(err: &impl Print, n: u64, step: Step) -> Reading {
-    match step {
-        Step::Order(o) => Reading::Came(step),
-        Step::Tracking(on) => Reading::Came(step),
-        Step::Unknown => {
-            complain(err, n, b": no such kind or side\n");
-            Reading::Ended
-        }
+    let side = Side::try_from(side).map_err(|_| Fault::Unknown)?;
+    match kind {
+        MARKET => Ok(Step::Order(market(side, id, qty))),
+        LIMIT => Ok(Step::Order(limit(side, id, qty, price))),
+        TRACKING => Ok(Step::Tracking(side == Side::Ask)),
+        _ => Err(Fault::Unknown),
     }
 }
 
-// The step with the number n, counted from 1.
-pub fn next_step(from: &mut impl Read, err: &impl Print, n: u64) -> Reading {
-    let mut bytes = [0u8; ORDER];
-    let read = read_bytes(from, &mut bytes);
-    match read {
-        Bytes::All => known(err, n, step_in(&bytes)),
-        Bytes::Ended => Reading::Ended,
-        Bytes::Cut => {
-            complain(err, n, b" is cut off\n");
-            Reading::Ended
-        }
-        Bytes::Failed => {
-            complain(err, n, b" could not be read\n");
-            Reading::Ended
-        }
+// The next step, or none at the end of the input.
+pub fn next_step(from: &mut impl Read) -> Result<Option<Step>, Fault> {
+    match read_numbers(from)? {
+        Some(numbers) => Ok(Some(step_of(numbers)?)),
+        None => Ok(None),
     }
 }

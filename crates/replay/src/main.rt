@@ -6,66 +6,61 @@
 // here gives no exit status.
 #![tactic(auto)]
 
-mod input; // input.rt: an order out of standard input
+mod input; // input.rt: a step out of standard input
 
-use input::{Reading, next_step};
-use script::{FILLS, OwnDesk, Step};
+use input::{Step, next_step};
+use script::{FILLS, OwnDesk};
+use stats::Statistics;
 use stats::bits::bits_of;
-use stats::{LastTrade, Statistics, Trade};
-use tell::{line, number, put};
 
-fn tell_trade(rt: &impl Print, t: Trade) {
-    number(rt, b"", t.total_qty.0);
-    number(rt, b" ", t.last_price.0);
-    number(rt, b" ", t.last_qty.0);
-    line(rt, b" ", bits_of(t.avg_price));
+fn tell_statistics(rt: &impl Print, statistics: Statistics) {
+    let volume = statistics.traded_volume().0;
+    let _ = match statistics.last_trade() {
+        None => println!(rt; " volume {volume} last -"),
+        Some(trade) => println!(rt;
+            " volume {volume} last {} {} {} {}",
+            trade.total_qty.0,
+            trade.last_price.0,
+            trade.last_qty.0,
+            bits_of(trade.avg_price)
+        ),
+    };
 }
 
-fn tell_statistics(rt: &impl Print, s: Statistics) {
-    let last = s.last_trade();
-    number(rt, b" volume ", s.traded_volume().0);
-    put(rt, b" last ");
-    match last {
-        LastTrade::Absent => put(rt, b"-\n"),
-        LastTrade::Present(t) => tell_trade(rt, t),
-    }
-}
-
-fn figures(rt: &impl Print, d: OwnDesk) {
-    let quotes = script::quoted(d);
-    let ask = quotes.ask;
-    let bid = quotes.bid;
-    let spread = quotes.spread;
-    tell::quote(rt, b"ask ", b"ask -", ask);
-    tell::quote(rt, b" bid ", b" bid -", bid);
-    tell::quote(rt, b" spread ", b" spread -", spread);
-    tell_statistics(rt, d.statistics);
+fn figures(rt: &impl Print, desk: &OwnDesk) {
+    let words = [
+        ("ask ", "ask -"),
+        (" bid ", " bid -"),
+        (" spread ", " spread -"),
+    ];
+    desk.quotes(rt, words);
+    tell_statistics(rt, desk.statistics);
 }
 
 // A step carried out and its answer told.
-fn carry_out(rt: &impl Print, d: OwnDesk, step: Step) -> OwnDesk {
+fn carry_out(rt: &impl Print, desk: &mut OwnDesk, step: Step) {
     match step {
-        Step::Order(o) => script::order(rt, d, FILLS, o),
+        Step::Order(order) => desk.order(rt, FILLS, order),
         Step::Tracking(on) => {
             tell::tracking(rt, on);
-            script::tracked(d, on)
+            desk.track(on);
         }
-        Step::Unknown => d,
     }
 }
 
-// The orders, one after another, to the end of the input. They are counted, so that the run ends whatever comes in.
+// The steps, one after another, to the end of the input. They are counted, so that the run ends whatever comes in.
 fn main(rt: HostRuntime) {
-    let mut d = script::fresh(&rt);
+    let mut desk = OwnDesk::fresh(&rt);
     let mut stdin = rt.stdin();
-    let err = rt.stderr();
-    let mut n = 0;
-    while n < u64::MAX {
-        n += 1;
-        let Reading::Came(step) = next_step(&mut stdin, &err, n) else {
-            return;
-        };
-        d = carry_out(&rt, d, step);
-        figures(&rt, d);
+    for number in 1..=u64::MAX {
+        match next_step(&mut stdin) {
+            Ok(Some(step)) => carry_out(&rt, &mut desk, step),
+            Ok(None) => return,
+            Err(fault) => {
+                let _ = eprintln!(rt; "replay: order {number}{fault}");
+                return;
+            }
+        }
+        figures(&rt, &desk);
     }
 }

@@ -1,38 +1,29 @@
 // What the desk answers to an order, as text in a lent buffer: the event's line and a line a fill, or the refusal's line.
 #![tactic(auto)]
 
-ghost use Rattle.std.specs.Prelude.{◌≡◌, ◌+◌, ◌*◌, ◌≤◌, min, length};
+ghost use Rattle.std.specs.Prelude.{◌≡◌, ◌+◌, ◌*◌, ◌≤◌, length};
 ghost use Rattle.overlay.specs.Over.{Put};
+ghost use Rattle.fields.specs.Output.{Lent};
 ghost use Rattle.rows.specs.Rows.{fill_row, places};
 ghost use Rattle.stats.specs.Statistics.{fills_in};
 ghost use Rattle.feed.specs.Feed.{fill_lines};
 ghost use Rattle.text.specs.Text.{longest};
 ghost use Rattle.reply.specs.Reply.{count_of, told_of};
 
-use desk::Answer;
-use models::OrderEvent;
-use rows::{fill_at, fill_places};
+use fields::Output;
+use models::{FillMetadata, OrderEvent, Refusal};
+use rows::Row;
 use text::{put_event, put_fill, put_refused};
 
-fn least(a: usize, b: usize) -> usize
-    ensures { result ≡ min a b }
-{
-    if a < b { a } else { b }
-}
-
 // A line for each of the first `count` fills, or as many as there are places.
-fn put_fills(out: &mut [u8], at: usize, fills: &[u64], count: usize) -> usize
-    requires { at + places fill_row fills.now * longest ≤ length out.old }
-    ensures { Put out.old at (fill_lines (fills_in fills.now count)) out.new result }
+fn put_fills(output: &mut Output<'_>, fills: &[u64], count: usize)
+    requires { output.old.at + places fill_row fills.now * longest ≤ length output.old.bytes.now }
+    ensures lent { Lent output.old output.new }
+    ensures put { Put output.old.bytes.now output.old.at (fill_lines (fills_in fills.now count)) output.new.bytes.now output.new.at }
 {
-    let n = least(count, fill_places(fills));
-    let mut behind = at;
-    let mut i = 0;
-    while i < n {
-        behind = put_fill(out, behind, fill_at(fills, i));
-        i += 1;
+    for i in 0..count.min(FillMetadata::places(fills)) {
+        put_fill(output, FillMetadata::at(fills, i));
     }
-    behind
 }
 
 // How many fills an event says.
@@ -40,32 +31,22 @@ pub fn count_of(event: OrderEvent) -> usize
     ensures { result ≡ count_of event }
 {
     match event {
-        OrderEvent::Unfilled { id } => 0,
-        OrderEvent::Placed { id } => 0,
-        OrderEvent::Canceled { id } => 0,
-        OrderEvent::PartiallyFilled {
-            id,
-            filled_qty,
-            fills: count,
-        } => count,
-        OrderEvent::Filled {
-            id,
-            filled_qty,
-            fills: count,
-        } => count,
+        OrderEvent::Unfilled { .. } | OrderEvent::Placed { .. } | OrderEvent::Canceled { .. } => 0,
+        OrderEvent::PartiallyFilled { fills, .. } | OrderEvent::Filled { fills, .. } => fills,
     }
 }
 
-// The text of an answer whose fills stand in the rows lent; the place behind it.
-pub fn put_answer(out: &mut [u8], at: usize, answer: Answer, fills: &[u64]) -> usize
-    requires { at + longest + places fill_row fills.now * longest ≤ length out.old }
-    ensures { Put out.old at (told_of answer fills.now) out.new result }
+// The text of an answer whose fills stand in the rows lent.
+pub fn put_answer(output: &mut Output<'_>, answer: Result<OrderEvent, Refusal>, fills: &[u64])
+    requires { output.old.at + longest + places fill_row fills.now * longest ≤ length output.old.bytes.now }
+    ensures lent { Lent output.old output.new }
+    ensures put { Put output.old.bytes.now output.old.at (told_of answer fills.now) output.new.bytes.now output.new.at }
 {
     match answer {
-        Answer::Refused(number) => put_refused(out, at, number),
-        Answer::Done(event) => {
-            let behind = put_event(out, at, event);
-            put_fills(out, behind, fills, count_of(event))
+        Ok(event) => {
+            put_event(output, event);
+            put_fills(output, fills, count_of(event));
         }
+        Err(refusal) => put_refused(output, refusal),
     }
 }

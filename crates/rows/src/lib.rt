@@ -1,38 +1,56 @@
 // Fills and levels as rows of numbers in a lent slice.
 #![tactic(auto)]
 
-ghost use Rattle.std.specs.Prelude.{◌≡◌, [], ◌∷◌, ◌+◌};
+ghost use Rattle.std.specs.Prelude.{◌≡◌, ℕ, [], ◌∷◌, ◌+◌, ◌<◌};
+ghost use Rattle.std.proofs.Common.{refl, lit<};
+ghost use Rattle.rules.specs.Rules as rule;
 ghost use Rattle.models.specs.Readings.{side_of, fill_of, level_of};
 ghost use Rattle.rules.specs.Whole.{one};
-ghost use Rattle.rows.specs.Rows.{number_of_side, side_numbered, fill_row, level_row, places, Place, row_at, written};
+ghost use Rattle.rows.specs.Rows.{RowForm, number_of_side, side_numbered, fill_row, level_row, places, Place, row_at, written};
 
 use models::{BookLevel, FillMetadata, Id, Price, Quantity, Side};
 
-// A fill is five numbers: taker, maker, quantity, price, side and use.
-const FILL: usize = 5;
+// What stands in a lent slice as a row of so many numbers.
+pub trait Row: Copy {
+    const WIDTH: usize;
 
-// A level is two: price, total quantity.
-const LEVEL: usize = 2;
+    ghost WIDTH: { ℕ };
 
-// Side and use in one number: a bid's is 0 and an ask's 2, plus 1 where the maker was used up.
+    // The rule book's value, how it stands in a row, and what a value of this type means by it.
+    ghost Said: { Type 0 };
+
+    ghost form: { RowForm Said };
+
+    ghost meaning: { Self → Said };
+
+    // Put into place i.
+    fn put(self, rows: &mut [u64], i: usize)
+        requires { Place form rows.old i }
+        ensures { rows.new ≡ written form rows.old i (meaning self ∷ []) };
+
+    // What the row in place i says.
+    fn at(rows: &[u64], i: usize) -> Self
+        requires { Place form rows.now i }
+        ensures { meaning result ≡ row_at form rows.now i };
+
+    ghost wide: { form.width ≡ WIDTH };
+
+    ghost some: { 0 < WIDTH };
+
+    // How many places a slice has.
+    final fn places(rows: &[u64]) -> usize
+        ensures { result ≡ places form rows.now }
+    {
+        rows.len() / Self::WIDTH
+    }
+}
+
+// Side and use in one number, as C reads it (include/felavuti.h): a bid's is 0 and an ask's 2, plus 1 where the maker was used up.
 const BID: u64 = 0;
 
 const ASK: u64 = 2;
 
 const WHOLE: u64 = 1;
-
-// How many fills a slice has place for.
-pub fn fill_places(fills: &[u64]) -> usize
-    ensures { result ≡ places fill_row fills.now }
-{
-    fills.len() / FILL
-}
-
-pub fn level_places(levels: &[u64]) -> usize
-    ensures { result ≡ places level_row levels.now }
-{
-    levels.len() / LEVEL
-}
 
 fn side_and_use(side: Side, whole: bool) -> u64
     ensures { result ≡ number_of_side (side_of side) + one whole }
@@ -53,52 +71,73 @@ fn side_in(v: u64) -> Side
     }
 }
 
-pub fn put_fill(fills: &mut [u64], i: usize, fill: FillMetadata)
-    requires { Place fill_row fills.old i }
-    ensures { fills.new ≡ written fill_row fills.old i (fill_of fill ∷ []) }
-{
-    let at = i * FILL;
-    let side = fill.taker_side;
-    fills[at] = fill.order_1.0;
-    fills[at + 1] = fill.order_2.0;
-    fills[at + 2] = fill.qty.0;
-    fills[at + 3] = fill.price.0;
-    fills[at + 4] = side_and_use(side, fill.total_fill);
-}
+// A fill is five numbers: taker, maker, quantity, price, side and use. Of the last only the two lowest bits count.
+impl Row for FillMetadata {
+    const WIDTH: usize = 5;
 
-// What the row i says. Of its last number only the two lowest bits count.
-pub fn fill_at(fills: &[u64], i: usize) -> FillMetadata
-    requires { Place fill_row fills.now i }
-    ensures { fill_of result ≡ row_at fill_row fills.now i }
-{
-    let at = i * FILL;
-    let v = fills[at + 4];
-    FillMetadata {
-        order_1: Id(fills[at]),
-        order_2: Id(fills[at + 1]),
-        qty: Quantity(fills[at + 2]),
-        price: Price(fills[at + 3]),
-        taker_side: side_in(v),
-        total_fill: v % 2 == WHOLE,
+    ghost WIDTH = { 5 };
+
+    ghost Said = { rule.Fill (Unit {0}) };
+
+    ghost form = { fill_row };
+
+    ghost meaning = { fill_of };
+
+    fn put(self, rows: &mut [u64], i: usize) {
+        let at = i * Self::WIDTH;
+        let side = self.taker_side;
+        rows[at] = self.order_1.0;
+        rows[at + 1] = self.order_2.0;
+        rows[at + 2] = self.qty.0;
+        rows[at + 3] = self.price.0;
+        rows[at + 4] = side_and_use(side, self.total_fill);
     }
-}
 
-pub fn put_level(levels: &mut [u64], i: usize, level: BookLevel)
-    requires { Place level_row levels.old i }
-    ensures { levels.new ≡ written level_row levels.old i (level_of level ∷ []) }
-{
-    let at = i * LEVEL;
-    levels[at] = level.price.0;
-    levels[at + 1] = level.qty.0;
-}
-
-pub fn level_at(levels: &[u64], i: usize) -> BookLevel
-    requires { Place level_row levels.now i }
-    ensures { level_of result ≡ row_at level_row levels.now i }
-{
-    let at = i * LEVEL;
-    BookLevel {
-        price: Price(levels[at]),
-        qty: Quantity(levels[at + 1]),
+    fn at(rows: &[u64], i: usize) -> FillMetadata {
+        let at = i * Self::WIDTH;
+        let v = rows[at + 4];
+        FillMetadata {
+            order_1: Id(rows[at]),
+            order_2: Id(rows[at + 1]),
+            qty: Quantity(rows[at + 2]),
+            price: Price(rows[at + 3]),
+            taker_side: side_in(v),
+            total_fill: v % 2 == WHOLE,
+        }
     }
+
+    ghost wide = { refl };
+
+    ghost some = { lit< tt };
+}
+
+// A level is two: price, total quantity.
+impl Row for BookLevel {
+    const WIDTH: usize = 2;
+
+    ghost WIDTH = { 2 };
+
+    ghost Said = { rule.Level };
+
+    ghost form = { level_row };
+
+    ghost meaning = { level_of };
+
+    fn put(self, rows: &mut [u64], i: usize) {
+        let at = i * Self::WIDTH;
+        rows[at] = self.price.0;
+        rows[at + 1] = self.qty.0;
+    }
+
+    fn at(rows: &[u64], i: usize) -> BookLevel {
+        let at = i * Self::WIDTH;
+        BookLevel {
+            price: Price(rows[at]),
+            qty: Quantity(rows[at + 1]),
+        }
+    }
+
+    ghost wide = { refl };
+
+    ghost some = { lit< tt };
 }

@@ -7,10 +7,8 @@ ghost use Rattle.records.specs.Rows.{RecordAt};
 
 use records::{ID, WIDTH, load};
 
-// No mask: a home takes a division.
-const NO_MASK: u64 = 0;
-
 // Where a search ended, the entry it found there (0 for none), and how many places it looked at.
+// An entry is a number as it is stored, 0 for none: the C interface lends the places of the search (felavuti_fresh and every call after it).
 #[derive(Clone, Copy)]
 pub struct Probe {
     pub place: usize,
@@ -18,52 +16,70 @@ pub struct Probe {
     pub count: usize,
 }
 
-// The place after `p` on a ring of `m` places.
-fn after(m: usize, p: usize) -> usize
-    requires { p < m }
-    ensures { result ≡ next m p }
-{
-    if p + 1 == m {
-        return 0;
-    }
-    p + 1
-}
-
-// How many steps lead from `a` to `b`.
-fn steps(m: usize, a: usize, b: usize) -> usize
-    requires { (a < m) × (b < m) }
-    ensures { result ≡ dist m a b }
-{
-    if a <= b {
-        return b - a;
-    }
-    m - (a - b)
-}
-
-// A mask for the homes on a ring of `m` places: m - 1 where m is a power of two, so that no home takes a division; else 0.
-pub fn mask_of(m: usize) -> u64
+// A mask for the homes on a ring of `m` places: m - 1 where m is a power of two, else none.
+#[tactic(auto, using(crate::proofs::Masks::masks_known))]
+fn mask_of(m: usize) -> Option<u64>
     requires { 0 < m }
     ensures { Masks m result }
 {
-    let k = m as u64;
-    if k & (k - 1) == 0 {
-        return k - 1;
+    if m.is_power_of_two() {
+        Some(m as u64 - 1)
+    } else {
+        None
     }
-    NO_MASK
 }
 
-// An id's home on a ring of `m` places.
-pub fn home_of(m: usize, mask: u64, id: u64) -> usize
-    requires { (0 < m) × Masks m mask }
-    ensures { result ≡ home m id }
-{
-    if mask == NO_MASK {
-        return (id % (m as u64)) as usize;
+// The places as a ring, with a mask for the homes on it if there is one: then no home takes a division.
+#[derive(Clone, Copy)]
+pub struct Ring {
+    pub places: usize,
+    pub mask: Option<u64>,
+    ghost some: { 0 < places },
+    ghost masked: { Masks places mask },
+}
+
+impl Ring {
+    pub fn new(places: usize) -> Ring
+        requires { 0 < places }
+        ensures { result.places ≡ places }
+    {
+        Ring {
+            places,
+            mask: mask_of(places),
+        }
     }
-    (id & mask) as usize
+
+    // An id's home.
+    pub fn home(self, id: u64) -> usize
+        ensures { result ≡ home self.places id }
+    {
+        match self.mask {
+            Some(mask) => (id & mask) as usize,
+            None => (id % self.places as u64) as usize,
+        }
+    }
+
+    // The place after `p`.
+    #[tactic(auto, using(crate::proofs::Distance::next_is))]
+    fn after(self, p: usize) -> usize
+        requires { p < self.places }
+        ensures { result ≡ next self.places p }
+    {
+        if p + 1 == self.places { 0 } else { p + 1 }
+    }
+
+    // How many steps lead from `a` to `b`.
+    #[tactic(auto, using(crate::proofs::Distance::dist_is))]
+    fn steps(self, a: usize, b: usize) -> usize
+        requires { (a < self.places) × (b < self.places) }
+        ensures { result ≡ dist self.places a b }
+    {
+        if a <= b { b - a } else { self.places - (a - b) }
+    }
 }
 
 // Whether entry `e` stands for a record.
+#[tactic(auto, unfolding(crate::specs::Seek::inside))]
 fn points(records: &[u64], e: u64) -> bool
     requires { e ≡ 0 → ⊥ }
     ensures { result ≡ inside records.now e }
@@ -73,97 +89,88 @@ fn points(records: &[u64], e: u64) -> bool
 }
 
 // Whether a search for `id` ends at entry `e`.
+#[tactic(auto, using(crate::proofs::Walks::stops_free, crate::proofs::Walks::stops_in, crate::proofs::Walks::stops_out, crate::proofs::Entries::inside_row))]
 fn ends_at(records: &[u64], e: u64, id: u64) -> bool
     ensures { result ≡ stops records.now id e }
 {
-    if e == 0 {
-        return true;
-    }
-    if points(records, e) {
-        return load(records, ID, e) == id;
-    }
-    false
+    e == 0 || (points(records, e) && load(records, ID, e) == id)
 }
 
 // The search for `id`: it ends on any slices.
+#[tactic(auto, using(crate::proofs::Distance::next_lt, crate::proofs::Walks::turn_on, crate::proofs::Walks::turn_stop, crate::proofs::Walks::walk_none))]
 pub fn find(table: &[u64], records: &[u64], id: u64) -> Probe
     requires { 0 < length table.now }
     ensures { (result.place ≡ (sought table.now records.now id).place)
         × (result.entry ≡ (sought table.now records.now id).entry)
         × (result.count ≡ (sought table.now records.now id).count) }
 {
-    let m = table.len();
-    let mut p = home_of(m, mask_of(m), id);
-    let mut n = 0;
-    while n < m {
+    let ring = Ring::new(table.len());
+    let mut p = ring.home(id);
+    for n in 0..table.len() {
         let e = table[p];
-        n += 1;
         if ends_at(records, e, id) {
             return Probe {
                 place: p,
                 entry: e,
-                count: n,
+                count: n + 1,
             };
         }
-        p = after(m, p);
+        p = ring.after(p);
     }
     Probe {
         place: p,
         entry: 0,
-        count: n,
+        count: table.len(),
     }
 }
 
 // Enters the record of code `e` under `id`. An entry that has the id is overwritten.
+#[tactic(auto, using(crate::proofs::Entries::sought_lt), unfolding(crate::specs::Seek::entering))]
 pub fn insert(table: &mut [u64], records: &[u64], id: u64, e: u64)
     requires { 0 < length table.old }
     ensures { table.new ≡ entering table.old records.now id e }
 {
-    let w = find(table, records, id);
-    let p = w.place;
-    table[p] = e;
+    let end = find(table, records, id);
+    table[end.place] = e;
 }
 
 // Takes the entry at `place` out, and moves up the entries behind it that would not be found any more.
+#[tactic(auto, using(crate::proofs::Distance::home_lt, crate::proofs::Distance::next_lt, crate::proofs::Entries::inside_row))]
 pub fn remove(table: &mut [u64], records: &[u64], place: usize)
     requires pointing { Pointing table.old records.now }
     requires place_in_bounds { place < length table.old }
     ensures { table.new ≡ removing table.old records.now place }
 {
-    let m = table.len();
-    let mask = mask_of(m);
+    let ring = Ring::new(table.len());
     table[place] = 0;
     let mut hole = place;
-    let mut j = after(m, place);
-    let mut left = m;
-    while left > 0 {
-        left -= 1;
+    let mut j = ring.after(place);
+    for _ in 0..table.len() {
         let e = table[j];
         if e == 0 {
             return;
         }
-        let h = home_of(m, mask, load(records, ID, e));
-        let before = steps(m, h, hole);
-        let far = steps(m, h, j);
-        let k = after(m, j);
+        let h = ring.home(load(records, ID, e));
+        let before = ring.steps(h, hole);
+        let far = ring.steps(h, j);
         if before < far {
             table[hole] = e;
             table[j] = 0;
             hole = j;
         }
-        j = k;
+        j = ring.after(j);
     }
 }
 
 // Takes out the entry of the record of code `e`, where a search finds that record. A newer record with its id stays found.
+#[tactic(auto, using(crate::proofs::Entries::sought_lt, crate::proofs::Forgetting::forget_one, crate::proofs::Forgetting::forget_none))]
 pub fn forget(table: &mut [u64], records: &[u64], e: u64)
     requires { Pointing table.old records.now × (0 < length table.old) × RecordAt records.now e }
     ensures { table.new ≡ forgetting table.old records.now e }
 {
-    let w = find(table, records, load(records, ID, e));
-    let p = w.place;
-    if w.entry == e {
-        remove(table, records, p);
+    let end = find(table, records, load(records, ID, e));
+    if end.entry == e {
+        remove(table, records, end.place);
     }
 }
 
@@ -171,9 +178,5 @@ pub fn forget(table: &mut [u64], records: &[u64], e: u64)
 pub fn clear(table: &mut [u64])
     ensures { table.new ≡ replicate (length table.old) 0 }
 {
-    let mut p = 0;
-    while p < table.len() {
-        table[p] = 0;
-        p += 1;
-    }
+    table.fill(0);
 }

@@ -23,8 +23,8 @@ use Rattle.stats.specs.Statistics.{fills_in}
 use Rattle.stats.specs.declared.Statistics.{Statistics}
 use Rattle.ledger.specs.Stock.{Stock}
 use Rattle.whole.specs.Whole.{WholeStock}
-use Rattle.desk.specs.declared.Answer.{Answer}
-use Rattle.desk.specs.declared.Answer.TheVariants.{Refused, Done}
+use Rattle.std.specs.Prelude.{Result, Ok, Err}
+use Rattle.models.specs.declared.Refusal.{Refusal}
 use Rattle.desk.specs.Performs.{Performs, refused, carried as carried_out, answer_of}
 use Rattle.feed.specs.Feed.{answer_text, result}
 use Rattle.reply.specs.Reply.{count_of, fill_count, told_of}
@@ -111,16 +111,16 @@ told_fills out out' l n e h w =
 -- ---- a step follows
 
 -- a refusal says nothing of fills
-refused_any : (a : Answer) (l : List (rule.Fill (Unit {0}))) (n : ℕ) → answer_of a [] ≡ rule.Answer.refused n → answer_of a l ≡ rule.Answer.refused n
-refused_any (Refused m) l n e = e
-refused_any (Done v) l n e = absurd (let y : ◌≡◌ {A = ℕ} 0 1 = cc in let x : ⊥ = omega arith in x)
+refused_any : (a : Result OrderEvent Refusal) (l : List (rule.Fill (Unit {0}))) (n : ℕ) → answer_of a [] ≡ rule.Answer.refused n → answer_of a l ≡ rule.Answer.refused n
+refused_any (Err m) l n e = e
+refused_any (Ok v) l n e = absurd (let y : ◌≡◌ {A = ℕ} 0 1 = cc in let x : ⊥ = omega arith in x)
 
 -- an answer counts the fills of its event
-answer_counts : (a : Answer) (e : rule.Event) (l m : List (rule.Fill (Unit {0}))) → answer_of a l ≡ rule.done e m → fill_count a ≡ event_count e
-answer_counts (Refused n) e l m h = absurd (let y : ◌≡◌ {A = ℕ} 0 1 = cc in let x : ⊥ = omega arith in x)
-answer_counts (Done v) e l m h = count_is v ∙ ap event_count (let z : event_of v ≡ e = cc in z)
+answer_counts : (a : Result OrderEvent Refusal) (e : rule.Event) (l m : List (rule.Fill (Unit {0}))) → answer_of a l ≡ rule.done e m → fill_count a ≡ event_count e
+answer_counts (Err n) e l m h = absurd (let y : ◌≡◌ {A = ℕ} 0 1 = cc in let x : ⊥ = omega arith in x)
+answer_counts (Ok v) e l m h = count_is v ∙ ap event_count (let z : event_of v ≡ e = cc in z)
 
-module _ (z : rule.Size) (x x' : Keeping) (o : OrderType) (a : Answer) (ready : Ready z x) where
+module _ (z : rule.Size) (x x' : Keeping) (o : OrderType) (a : Result OrderEvent Refusal) (ready : Ready z x) where
   -- the rules' result with the places lent is that with a place for every order that can rest
   same : perform z (desk_of x) (call_of (places fill_row x.fills) o) ≡ result z (desk_of x) o
   same = ap (λ (m : ℕ). perform z (desk_of x) (call_of m o)) ready.roomy
@@ -143,6 +143,6 @@ module _ (z : rule.Size) (x x' : Keeping) (o : OrderType) (a : Answer) (ready : 
       }
 
 -- the same of the values that a call is lent and leaves
-pub followed : {z : rule.Size} {k k' : Stock} {st st' : Statistics} {rows rows' : List ℕ} (o : OrderType) {a : Answer} → Ready z (keeping k st rows)
+pub followed : {z : rule.Size} {k k' : Stock} {st st' : Statistics} {rows rows' : List ℕ} (o : OrderType) {a : Result OrderEvent Refusal} → Ready z (keeping k st rows)
     → Performs (WholeStock z) z (call_of (places fill_row rows) o) k st rows a k' st' rows' → Follows z (keeping k st rows) o (told_of a rows') (keeping k' st' rows')
 followed {z} {k} {k'} {st} {st'} {rows} {rows'} o {a} h p = follows z (keeping k st rows) (keeping k' st' rows') o a h p

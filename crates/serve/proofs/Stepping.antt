@@ -6,33 +6,32 @@ use native.Mathlib.Omega.{arith}
 use lib.ListN.{drop}
 use Rattle.rules.specs.Rules as rule
 use Rattle.models.specs.declared.OrderType.{OrderType}
-use Rattle.tape.specs.declared.Read.TheVariants.{Order, Refused, End}
-use Rattle.tape.specs.Orders.{Item, order, refused, nothing, item, found, read_at}
+use Rattle.tape.specs.Orders.{Item, order, refused, nothing, item, entry, fault, no_more, found, read_at}
 use Rattle.text.specs.Text.{stopped_line}
 use Rattle.serve.specs.declared.State.TheVariants.{Going, Stopped, Ended}
 use Rattle.serve.specs.Serve.{Keeping, Follows, Stepped, ended, stopped, went}
 
-pub refused_place : (w : List ℕ) (at n p : ℕ) → read_at w at ≡ Refused n p → p ≡ at
+pub refused_place : (w : List ℕ) (at n p : ℕ) → read_at w at ≡ fault n p → p ≡ at
 refused_place w at n p e = go (item (drop at w)) e
   where
-    go : (i : Item) → found at i ≡ Refused n p → p ≡ at
+    go : (i : Item) → found at i ≡ fault n p → p ≡ at
     go (order o k) e = absurd (let z : ◌≡◌ {A = ℕ} 0 1 = cc in let x : ⊥ = omega arith in x)
     go (refused m) e = cc
     go nothing e = absurd (let z : ◌≡◌ {A = ℕ} 0 1 = cc in let x : ⊥ = omega arith in x)
 
 module _ (z : rule.Size) (w : List ℕ) (base at : ℕ) (x : Keeping) where
-  pub end_stepped : read_at w at ≡ End → Stepped z w base at x [] Ended at x
+  pub end_stepped : read_at w at ≡ no_more → Stepped z w base at x [] Ended at x
   end_stepped e = go (item (drop at w)) refl e
     where
-      go : (i : Item) → item (drop at w) ≡ i → found at i ≡ End → Stepped z w base at x [] Ended at x
+      go : (i : Item) → item (drop at w) ≡ i → found at i ≡ no_more → Stepped z w base at x [] Ended at x
       go (order o k) p e = absurd (let z : ◌≡◌ {A = ℕ} 0 1 = cc in let x : ⊥ = omega arith in x)
       go (refused m) p e = absurd (let z : ◌≡◌ {A = ℕ} 0 1 = cc in let x : ⊥ = omega arith in x)
       go nothing p e = ended p
 
-  pub refused_stepped : (n p : ℕ) → read_at w at ≡ Refused n p → Stepped z w base at x (stopped_line n (base + p)) Stopped at x
+  pub refused_stepped : (n p : ℕ) → read_at w at ≡ fault n p → Stepped z w base at x (stopped_line n (base + p)) Stopped at x
   refused_stepped n p e = go (item (drop at w)) refl e
     where
-      go : (i : Item) → item (drop at w) ≡ i → found at i ≡ Refused n p → Stepped z w base at x (stopped_line n (base + p)) Stopped at x
+      go : (i : Item) → item (drop at w) ≡ i → found at i ≡ fault n p → Stepped z w base at x (stopped_line n (base + p)) Stopped at x
       go (order o k) q e = absurd (let z : ◌≡◌ {A = ℕ} 0 1 = cc in let x : ⊥ = omega arith in x)
       go (refused m) q e =
           let a : m ≡ n = cc in
@@ -41,11 +40,11 @@ module _ (z : rule.Size) (w : List ℕ) (base at : ℕ) (x : Keeping) where
           (subst (λ (i : ℕ). Stepped z w base at x (stopped_line i (base + at)) Stopped at x) a (stopped q))
       go nothing q e = absurd (let z : ◌≡◌ {A = ℕ} 0 1 = cc in let x : ⊥ = omega arith in x)
 
-  pub order_stepped : (o : OrderType) (next : ℕ) {said : List ℕ} {x' : Keeping} → read_at w at ≡ Order o next → Follows z x o said x'
+  pub order_stepped : (o : OrderType) (next : ℕ) {said : List ℕ} {x' : Keeping} → read_at w at ≡ entry o next → Follows z x o said x'
       → Stepped z w base at x said Going next x'
   order_stepped o next {said} {x'} e f = go (item (drop at w)) refl e
     where
-      go : (i : Item) → item (drop at w) ≡ i → found at i ≡ Order o next → Stepped z w base at x said Going next x'
+      go : (i : Item) → item (drop at w) ≡ i → found at i ≡ entry o next → Stepped z w base at x said Going next x'
       go (order u k) p e =
           let a : u ≡ o = cc in
           let b : at + k ≡ next = cc in

@@ -3,17 +3,18 @@
 #![tactic(auto)]
 
 ghost use Rattle.std.specs.Prelude.{◌+◌, ◌*◌, ◌≤◌, ◌<◌, length};
-ghost use Rattle.ledger.specs.Stock.{stock};
+ghost use Rattle.fields.specs.Output.{Lent};
+ghost use Rattle.ledger.specs.Stock.{stock_of, Relent};
 ghost use Rattle.whole.specs.Whole.{size_of};
 ghost use Rattle.text.specs.Text.{longest};
 ghost use Rattle.serve.specs.Serve.{keeping, Ready, Step};
 
-use ledger::OrderBook;
+use fields::Output;
+use ledger::StoredBook;
 use perform::perform;
 use reader::read_order;
 use reply::put_answer;
 use stats::Statistics;
-use tape::Read;
 use text::put_stopped;
 use whole::Size;
 
@@ -25,69 +26,52 @@ pub enum State {
     Ended,
 }
 
-// The state, the place of the next field, the place behind the text, and the desk's small values.
+// The state, and the place of the next field.
 #[derive(Clone, Copy)]
 pub struct Turn {
     pub state: State,
     pub next: usize,
-    pub behind: usize,
-    pub book: OrderBook,
-    pub statistics: Statistics,
 }
 
-// One field: `at` is its place among the tape's bytes at hand, which begin at the offset `base` of the tape; its text goes to the place `to` of out.
+// One field: `at` is its place among the tape's bytes at hand, which begin at the offset `base` of the tape; its text is put out.
 pub fn step(
     tape: &[u8],
     at: usize,
     base: u64,
     size: Size,
-    book: OrderBook,
-    statistics: Statistics,
-    records: &mut [u64],
-    bids: &mut [u64],
-    asks: &mut [u64],
-    search: &mut [u64],
+    book: &mut StoredBook<'_>,
+    statistics: &mut Statistics,
     fills: &mut [u64],
-    out: &mut [u8],
-    to: usize,
+    output: &mut Output<'_>,
 ) -> Turn
-    requires { Ready (size_of size) (keeping (stock book records.old bids.old asks.old search.old) statistics fills.old)
-        × (base + at < 18446744073709551616) × (to + longest + size.orders * longest ≤ length out.old) }
-    ensures { Step (size_of size) tape.now base at
-        (keeping (stock book records.old bids.old asks.old search.old) statistics fills.old)
-        out.old to result.state result.next result.behind
-        (keeping (stock result.book records.new bids.new asks.new search.new) result.statistics fills.new)
-        out.new }
+    requires { Ready (size_of size) (keeping (stock_of book.old) statistics.old fills.old)
+        × (base + at < 18446744073709551616) × (output.old.at + longest + size.orders * longest ≤ length output.old.bytes.now) }
+    ensures relent { Relent book.old book.new }
+    ensures lent { Lent output.old output.new }
+    ensures step { Step (size_of size) tape.now base at
+        (keeping (stock_of book.old) statistics.old fills.old)
+        output.old.bytes.now output.old.at result.state result.next output.new.at
+        (keeping (stock_of book.new) statistics.new fills.new)
+        output.new.bytes.now }
 {
     match read_order(tape, at) {
-        Read::End => Turn {
+        Ok(None) => Turn {
             state: State::Ended,
             next: at,
-            behind: to,
-            book,
-            statistics,
         },
-        Read::Refused(number, place) => Turn {
-            state: State::Stopped,
-            next: at,
-            behind: put_stopped(out, to, number, base + place as u64),
-            book,
-            statistics,
-        },
-        Read::Order(order, next) => {
-            let done = perform(
-                size, book, statistics, records, bids, asks, search, fills, order,
-            );
-            let answer = done.answer;
-            let new_book = done.book;
-            let new_statistics = done.statistics;
-            let behind = put_answer(out, to, answer, fills);
+        Err(fault) => {
+            put_stopped(output, fault.refusal, base + fault.place as u64);
+            Turn {
+                state: State::Stopped,
+                next: at,
+            }
+        }
+        Ok(Some(entry)) => {
+            let answer = perform(size, book, statistics, fills, entry.order);
+            put_answer(output, answer, fills);
             Turn {
                 state: State::Going,
-                next,
-                behind,
-                book: new_book,
-                statistics: new_statistics,
+                next: entry.next,
             }
         }
     }

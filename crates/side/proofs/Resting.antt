@@ -173,14 +173,6 @@ module _ {n : ℕ} {rs lv ov : List ℕ} {s t c r : ℕ} {ws vs : List Lvl} {fr 
       ready_is (new x y z u) = rested_new ws k c p (omega (arith, b.within, w.mine.count)) low (λ g. high z k (omega arith) (omega (arith, w.mine.count)))
 
 module _ {rs lv : List ℕ} {s c p : ℕ} (h : CanRest rs lv s c p) (id q : ℕ) {k : ℕ} (b : Bracket lv s p k k) where
-  -- what `ready` asks
-  pub ready_needs : (k < s → get_or lv (k * 3) 0 ≢ p) → s * 3 + 3 ≤ length lv
-  ready_needs d = h.room (λ i g e.
-      let a = h.stored.mine in
-      ⊎_elim (λ z. omega (arith, b.low i z))
-      (λ z. ⊎_elim (λ y. omega (arith, b.high k (omega arith) (omega arith), a.rising k i y g, (a.level k (omega arith)).price, (a.level i g).price))
-      (λ y. let o : i ≡ k = omega arith in d (omega arith) (rw o at e)) (lt? k i)) (lt? i k))
-
   module _ {m : ℕ} {r₁ lw : List ℕ} (e₁ : r₁ ≡ record_written rs c id q p) (y : Ready lv s k p m lw) where
     pub append_asks : (k * 3 + 2 < length lw) × RecordAt r₁ c × (1 ≤ get_or lw (k * 3 + 2) 0 → RecordAt r₁ (get_or lw (k * 3 + 2) 0))
     append_asks = rw e₁ (let w = h.stored in append_needs id q p k w (ready_side id q p k w b y) (ready_ups id q p k w b y) (ready_in id q p k w b y) (ready_price id q p k w b y))

@@ -1,89 +1,56 @@
--- Level rows that move by one row, and the search for a price among them. Assumes nothing.
-use Prim.Native.Nat.{ℕ, ◌*◌, ◌+◌, ◌-◌, ◌<◌, ◌≤◌}
-use mathlib.Core.Bool.{Bool, false, true}
-use mathlib.Core.List.{List}
-use mathlib.Core.Logic.{◌≢◌, ⊎_elim}
-use mathlib.Core.Path.{refl, ◌∙◌, ◌≡◌}
+-- The search for a price among level rows. Assumes nothing.
+use Prim.Native.Nat.{suc, zero, ℕ, ◌*◌, ◌+◌, ◌/◌, ◌<◌, ◌≤◌}
+use mathlib.Core.Bool.{false, true}
+use mathlib.Core.List.{List, []}
+use mathlib.Core.Logic.{⊎_elim}
+use mathlib.Core.Path.{ap, ◌∙◌, ◌≡◌}
 use native.Mathlib.Omega.{arith}
-use lib.Dec.{eqb}
-use lib.ListN.{get_or, length, length-set, set}
-use lib.Seq.{get_or-set_other, get_or-set_same}
-use borrow.Author.Tests.{eqb-false, eqb-true}
+use lib.Dec.{ltb}
+use lib.ListN.{drop, get_or, length, take}
+use borrow.Author.Tests.{ltb-false, ltb-true}
+use Rattle.std.specs.Simd.{first_chunks}
+use Rattle.std.specs.List.Sorted.{IsNonDecreasingBy, IsPartitionPoint, IsPartitionedBy}
+use Rattle.std.proofs.lemmas.List.{get_or-drop, get_or-take, length-drop, length-take-le}
+use Rattle.std.proofs.lemmas.List.Sorted.{IsPartitionedBy-ltb}
 use Rattle.records.proofs.Cases.{lt?}
-use Rattle.side.specs.Prices.{Bracket, Closed, Opened, Rising}
+use Rattle.arena.specs.Links.{price_of}
+use Rattle.side.specs.Prices.{Bracket, Rising}
 
--- those from j to m stand three places further up
-pub record Moved (lv : List ℕ) (m j : ℕ) (lw : List ℕ) : Type 0 where
-  pub long : length lw ≡ length lv
-  pub below : (i : ℕ) → i < j → get_or lw i 0 ≡ get_or lv i 0
-  pub moved : (i : ℕ) → j ≤ i → i < m → get_or lw (i + 3) 0 ≡ get_or lv i 0
+-- ## The search for a price
 
-pub moved_start : (lv : List ℕ) (m : ℕ) → Moved lv m m lv
-moved_start lv m = record { long = refl; below = λ i h. refl; moved = λ i a b. absurd (let z : ⊥ = omega arith in z) }
+-- the rows, cut out as lists of three numbers
+row_first : (k i : ℕ) (xs ds : List ℕ) → i < k → k * 3 ≤ length xs → get_or (get_or (first_chunks 3 k xs) i ds) 0 0 ≡ get_or xs (i * 3) 0
+row_first zero i xs ds h l = absurd (let z : ⊥ = omega arith in z)
+row_first (suc k) zero xs ds h l = get_or-take 3 xs 0 0 (omega arith)
+row_first (suc k) (suc i) xs ds h l =
+    let e : 3 + i * 3 ≡ suc i * 3 = omega arith in
+    row_first k i (drop 3 xs) ds (omega arith) (omega (arith, length-drop 3 xs)) ∙ get_or-drop 3 xs (i * 3) 0 ∙ ap (λ (j : ℕ). get_or xs j 0) e
 
-pub moved_step : (lv lw : List ℕ) (m j : ℕ) → 1 ≤ j → j ≤ m → m + 3 ≤ length lv → Moved lv m j lw → Moved lv m (j - 1) (set lw (j - 1 + 3) (get_or lw (j - 1) 0))
-moved_step lv lw m j p q r s = record {
-  long = length-set lw (j - 1 + 3) _ ∙ s.long;
-  below = λ i h. get_or-set_other lw (j - 1 + 3) i _ 0 (omega arith) ∙ s.below i (omega arith);
-  moved = λ i a b. go i a b (eqb i (j - 1)) refl;
-}
-  where
-    go : (i : ℕ) → j - 1 ≤ i → i < m → (t : Bool) → eqb i (j - 1) ≡ t → get_or (set lw (j - 1 + 3) (get_or lw (j - 1) 0)) (i + 3) 0 ≡ get_or lv i 0
-    go i a b true e =
-        let z : i ≡ j - 1 = eqb-true i (j - 1) e in
-        rw z (get_or-set_same lw (j - 1 + 3) (get_or lw (j - 1) 0) 0 (omega (arith, s.long)) ∙ s.below (j - 1) (omega arith))
-    go i a b false e =
-        let d : i ≢ j - 1 = eqb-false i (j - 1) e in
-        get_or-set_other lw (j - 1 + 3) (i + 3) (get_or lw (j - 1) 0) 0 (omega arith) ∙ s.moved i (omega arith) b
+module _ (lv : List ℕ) (n p : ℕ) (rows : List (List ℕ)) (s : Rising lv n) (e : rows ≡ first_chunks 3 (length (take (n * 3) lv) / 3) (take (n * 3) lv)) (l : length rows ≡ length (take (n * 3) lv) / 3) where
+  row_count : length (take (n * 3) lv) / 3 ≡ n
+  row_count = omega (arith, s.room, length-take-le (n * 3) lv)
 
-pub opened : (lv lw : List ℕ) (n k p : ℕ) → k ≤ n → n * 3 + 3 ≤ length lv → Moved lv (n * 3) (k * 3) lw
-    → Opened lv n k p (set (set (set lw (k * 3) p) (k * 3 + 1) 0) (k * 3 + 2) 0)
-opened lv lw n k p a b s = record {
-  long = length-set (set (set lw (k * 3) p) (k * 3 + 1) 0) (k * 3 + 2) 0 ∙ (length-set (set lw (k * 3) p) (k * 3 + 1) 0 ∙ (length-set lw (k * 3) p ∙ s.long));
-  below = λ i h. off i (omega arith) (omega arith) (omega arith) ∙ s.below i h;
-  moved = λ i h g. off (i + 3) (omega arith) (omega arith) (omega arith) ∙ s.moved i h g;
-  price = get_or-set_other (set (set lw (k * 3) p) (k * 3 + 1) 0) (k * 3 + 2) (k * 3) 0 0 (omega arith) ∙ (get_or-set_other (set lw (k * 3) p) (k * 3 + 1) (k * 3) 0 0 (omega arith) ∙ get_or-set_same lw (k * 3) p 0 (omega (arith, s.long)));
-  head = get_or-set_other (set (set lw (k * 3) p) (k * 3 + 1) 0) (k * 3 + 2) (k * 3 + 1) 0 0 (omega arith) ∙ get_or-set_same (set lw (k * 3) p) (k * 3 + 1) 0 0 (omega (arith, s.long, length-set lw (k * 3) p));
-  tail = get_or-set_same (set (set lw (k * 3) p) (k * 3 + 1) 0) (k * 3 + 2) 0 0 (omega (arith, s.long, length-set lw (k * 3) p, length-set (set lw (k * 3) p) (k * 3 + 1) 0));
-}
-  where
-    off : (i : ℕ) → i ≢ k * 3 → i ≢ k * 3 + 1 → i ≢ k * 3 + 2 → get_or (set (set (set lw (k * 3) p) (k * 3 + 1) 0) (k * 3 + 2) 0) i 0 ≡ get_or lw i 0
-    off i x y z = get_or-set_other (set (set lw (k * 3) p) (k * 3 + 1) 0) (k * 3 + 2) i 0 0 z ∙ (get_or-set_other (set lw (k * 3) p) (k * 3 + 1) i 0 0 y ∙ get_or-set_other lw (k * 3) i p 0 x)
+  price_at : (i : ℕ) (ds : List ℕ) → i < n → get_or (get_or rows i ds) 0 0 ≡ price_of lv i
+  price_at i ds h =
+      rw (e, row_count) (row_first n i (take (n * 3) lv) ds h (omega (arith, s.room, length-take-le (n * 3) lv)) ∙ get_or-take (n * 3) lv (i * 3) 0 (omega arith))
 
-pub closed_start : (lv : List ℕ) (a : ℕ) → Closed lv a a lv
-closed_start lv a = record { long = refl; below = λ i h. refl; moved = λ i p q. absurd (let z : ⊥ = omega arith in z); above = λ i h. refl }
+  rise : (i j : ℕ) → i ≤ j → j < n → price_of lv i ≤ price_of lv j
+  rise i j h g = ⊎_elim (λ q. omega (arith, s.rise i j q g)) (λ q. let w : i ≡ j = omega arith in rw w (omega arith)) (lt? i j)
 
-pub closed_step : (lv lw : List ℕ) (a j : ℕ) → a ≤ j → j + 3 < length lv → Closed lv a j lw → Closed lv a (j + 1) (set lw j (get_or lw (j + 3) 0))
-closed_step lv lw a j p q s = record {
-  long = length-set lw j _ ∙ s.long;
-  below = λ i h. get_or-set_other lw j i _ 0 (omega arith) ∙ s.below i h;
-  moved = λ i x y. go i x y (eqb i j) refl;
-  above = λ i h. get_or-set_other lw j i _ 0 (omega arith) ∙ s.above i (omega arith);
-}
-  where
-    go : (i : ℕ) → a ≤ i → i < j + 1 → (t : Bool) → eqb i j ≡ t → get_or (set lw j (get_or lw (j + 3) 0)) i 0 ≡ get_or lv (i + 3) 0
-    go i x y true e =
-        let z : i ≡ j = eqb-true i j e in
-        rw z (get_or-set_same lw j (get_or lw (j + 3) 0) 0 (omega (arith, s.long)) ∙ s.above (j + 3) (omega arith))
-    go i x y false e =
-        let d : i ≢ j = eqb-false i j e in
-        get_or-set_other lw j i (get_or lw (j + 3) 0) 0 d ∙ s.moved i x (omega arith)
+  rows_rise : IsNonDecreasingBy (λ (y : List ℕ). get_or y 0 0) rows
+  rows_rise i j ds h g =
+      let b : j < n = omega (arith, l, row_count) in
+      rw (price_at i ds (omega arith), price_at j ds b) (rise i j h b)
 
-pub bracket_start : (lv : List ℕ) (n p : ℕ) → Bracket lv n p 0 n
-bracket_start lv n p = record { ordered = omega arith; within = omega arith; low = λ i h. absurd (let z : ⊥ = omega arith in z); high = λ i h g. absurd (let z : ⊥ = omega arith in z) }
+  pub rows_parted : IsPartitionedBy (λ (y : List ℕ). ltb (get_or y 0 0) p) rows
+  rows_parted = IsPartitionedBy-ltb (λ (y : List ℕ). get_or y 0 0) rows p rows_rise
 
-pub bracket_up : (lv : List ℕ) (n p lo hi m : ℕ) → Rising lv n → Bracket lv n p lo hi → lo ≤ m → m < hi → get_or lv (m * 3) 0 < p → Bracket lv n p (m + 1) hi
-bracket_up lv n p lo hi m r b x y h = record {
-  ordered = omega arith;
-  within = b.within;
-  high = b.high;
-  low = λ i g. ⊎_elim (λ q. omega (arith, r.rise i m q (omega (arith, b.within)))) (λ q. let e : i ≡ m = omega arith in rw e h) (lt? i m);
-}
-
-pub bracket_down : (lv : List ℕ) (n p lo hi m : ℕ) → Rising lv n → Bracket lv n p lo hi → lo ≤ m → m < hi → p ≤ get_or lv (m * 3) 0 → Bracket lv n p lo m
-bracket_down lv n p lo hi m r b x y h = record {
-  ordered = omega arith;
-  within = omega (arith, b.within);
-  low = b.low;
-  high = λ i g k. ⊎_elim (λ q. omega (arith, r.rise m i q k)) (λ q. let e : i ≡ m = omega arith in rw e h) (lt? m i);
-}
+  pub bracket_at : (r : ℕ) → r ≤ length rows → IsPartitionPoint (λ (y : List ℕ). ltb (get_or y 0 0) p ≡ true) (λ (y : List ℕ). ltb (get_or y 0 0) p ≡ false) rows r → Bracket lv n p r r
+  bracket_at r h t =
+      let k : length rows ≡ n = l ∙ row_count in
+      record {
+        ordered = omega arith;
+        within = omega arith;
+        low = λ i g. rw (← price_at i [] (omega arith)) (ltb-true _ _ (t.0 i [] (omega arith) g));
+        high = λ i g j. rw (← price_at i [] j) (ltb-false _ _ (t.1 i [] g (omega arith)));
+      }

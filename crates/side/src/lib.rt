@@ -27,15 +27,11 @@ pub fn open_row(levels: &mut [u64], n: usize, k: usize, price: Price)
     requires { (k ≤ n) × (n * 3 + 3 ≤ length levels.old) }
     ensures { Opened levels.old n k price.0 levels.new }
 {
-    let from = k * ROW;
-    let mut j = n * ROW;
-    while from < j {
-        j -= 1;
-        levels[j + ROW] = levels[j];
-    }
-    levels[from] = price.0;
-    levels[from + HEAD] = 0;
-    levels[from + TAIL] = 0;
+    let at = k * ROW;
+    levels.copy_within(at..n * ROW, at + ROW);
+    levels[at] = price.0;
+    levels[at + HEAD] = 0;
+    levels[at + TAIL] = 0;
 }
 
 // Row k goes: those above it move down by one.
@@ -43,32 +39,8 @@ pub fn shut_row(levels: &mut [u64], n: usize, k: usize)
     requires { (k < n) × (n * 3 ≤ length levels.old) }
     ensures { Closed levels.old (k * 3) ((n - 1) * 3) levels.new }
 {
-    let last = (n - 1) * ROW;
-    let mut j = k * ROW;
-    while j < last {
-        levels[j] = levels[j + ROW];
-        j += 1;
-    }
-}
-
-// The rows among which a price is sought: those below `lo` are lower, those from `hi` on are not.
-#[derive(Clone, Copy)]
-pub struct Span {
-    pub lo: usize,
-    pub hi: usize,
-}
-
-// One halving.
-pub fn halve(levels: &[u64], n: usize, price: Price, lo: usize, hi: usize) -> Span
-    requires { Rising levels.now n × Bracket levels.now n price.0 lo hi × (lo < hi) }
-    ensures { Bracket levels.now n price.0 result.lo result.hi × (result.hi - result.lo < hi - lo) }
-{
-    let m = lo + (hi - lo) / 2;
-    if levels[m * ROW] < price.0 {
-        Span { lo: m + 1, hi }
-    } else {
-        Span { lo, hi: m }
-    }
+    let at = k * ROW;
+    levels.copy_within(at + ROW..n * ROW, at);
 }
 
 // The first row whose price is not below `price`.
@@ -76,11 +48,8 @@ pub fn find_row(levels: &[u64], n: usize, price: Price) -> usize
     requires { Rising levels.now n }
     ensures { Bracket levels.now n price.0 result result }
 {
-    let mut s = Span { lo: 0, hi: n };
-    while s.lo < s.hi {
-        s = halve(levels, n, price, s.lo, s.hi);
-    }
-    s.lo
+    let (rows, _) = levels[..n * ROW].as_chunks::<ROW>();
+    rows.partition_point(|row| row[0] < price.0)
 }
 
 // A row of `price` at k, where the search for that price ended; the number of rows then.
@@ -88,18 +57,15 @@ pub fn ready(levels: &mut [u64], n: usize, k: usize, price: Price) -> usize
     requires { (k ≤ n) × (n * 3 ≤ length levels.old) × ((k < n → price_of levels.old k ≢ price.0) → n * 3 + 3 ≤ length levels.old) }
     ensures { Ready levels.old n k price.0 result levels.new }
 {
-    if k < n {
-        if levels[k * ROW] == price.0 {
-            return n;
-        }
-        open_row(levels, n, k, price);
-        return n + 1;
+    if k < n && levels[k * ROW] == price.0 {
+        return n;
     }
     open_row(levels, n, k, price);
     n + 1
 }
 
 // What a door leaves: the side's number of rows, and the first free place.
+// A side's storage stays four arguments: ledger's StoredBook has them all, and a second struct of loans, made for each call, would say over again what is lent.
 #[derive(Clone, Copy)]
 pub struct Ends {
     pub rows: usize,
@@ -137,13 +103,11 @@ pub fn discard(records: &mut [u64], levels: &mut [u64], n: usize, free: u64, c: 
     let k = find_row(levels, n, price);
     unlink(records, levels, k, c);
     give_back(records, free, c);
-    let head = levels[k * ROW + HEAD];
-    if head == 0 {
+    let rows = if levels[k * ROW + HEAD] == 0 {
         shut_row(levels, n, k);
-        return Ends {
-            rows: n - 1,
-            free: c,
-        };
-    }
-    Ends { rows: n, free: c }
+        n - 1
+    } else {
+        n
+    };
+    Ends { rows, free: c }
 }

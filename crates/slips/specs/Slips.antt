@@ -1,6 +1,6 @@
 -- An order as six numbers, a slip: kind (1 market, 2 limit, 3 cancel; 0 the end of a tape), id, side (0 bid, 1 ask), quantity, price, and the place
 -- behind its field. What reading and writing a field by a slip answer and leave. Assumes nothing.
-use Rattle.std.specs.Prelude.{ℕ, ◌+◌, Bool, not, ◌&&◌, ◌||◌, cond, List, [], ◌∷◌, eqb, ltb, length, get_or, set}
+use Rattle.std.specs.Prelude.{ℕ, ◌+◌, Bool, not, ◌&&◌, ◌||◌, cond, List, [], ◌∷◌, eqb, ltb, length, get_or, set, Result, Ok, Err}
 use Rattle.std.proofs.Math.Option.{Option, none, some}
 use Rattle.rules.specs.Rules.{first_of}
 use Rattle.models.specs.declared.Id.{Id}
@@ -8,17 +8,26 @@ use Rattle.models.specs.declared.Quantity.{Quantity}
 use Rattle.models.specs.declared.Side.{Side}
 use Rattle.models.specs.declared.OrderType.{OrderType}
 use Rattle.models.specs.declared.OrderType.TheVariants.{Market, Limit, Cancel}
-use Rattle.tape.specs.declared.Read.{Read}
-use Rattle.tape.specs.declared.Read.TheVariants as read
-use Rattle.tape.specs.Orders.{market_tag, limit_tag, cancel_tag, side_by, number_of_side, field_of, fits, read_at, written_to}
-use Rattle.slips.specs.declared.Outcome.{Outcome}
+use Rattle.models.specs.declared.Refusal.{Refusal}
+use Rattle.models.specs.Readings.{side_number, refusal_number}
+use Rattle.tape.specs.Orders.{market_tag, limit_tag, cancel_tag, side_by, field_of, fits, Read, entry, fault, no_more, read_at, written_to}
+
+-- the number of a refusal, or 0; and the slip afterwards
+pub record Outcome : Type 0 where
+  pub code : ℕ
+  pub slip : List ℕ
+
+-- what an answer says where the slip s was lent: it is the caller's own, and a refusal leaves it as it was
+abbrev pub outcome_of : List ℕ → Result (List ℕ) Refusal → Outcome
+outcome_of s (Ok s') = record { code = 0; slip = s' }
+outcome_of s (Err e) = record { code = refusal_number e; slip = s }
 
 -- ---- reading
 
 -- an order with the place behind it; a number that its kind doesn't have is 0
 abbrev pub slip_for : OrderType → ℕ → List ℕ
-slip_for (Market id side qty) next = market_tag ∷ id.0 ∷ number_of_side side ∷ qty.0 ∷ 0 ∷ next ∷ []
-slip_for (Limit id side qty price) next = limit_tag ∷ id.0 ∷ number_of_side side ∷ qty.0 ∷ price.0 ∷ next ∷ []
+slip_for (Market id side qty) next = market_tag ∷ id.0 ∷ side_number side ∷ qty.0 ∷ 0 ∷ next ∷ []
+slip_for (Limit id side qty price) next = limit_tag ∷ id.0 ∷ side_number side ∷ qty.0 ∷ price.0 ∷ next ∷ []
 slip_for (Cancel id) next = cancel_tag ∷ id.0 ∷ 0 ∷ 0 ∷ 0 ∷ next ∷ []
 
 -- no order: the end
@@ -27,9 +36,9 @@ end_slip at = 0 ∷ 0 ∷ 0 ∷ 0 ∷ 0 ∷ at ∷ []
 
 -- the slip s was lent, and x stands at the place: 0 and a slip anew, or the number of the refusal and the slip as it was
 abbrev pub told : ℕ → List ℕ → Read → Outcome
-told at s (read.Order o next) = record { code = 0; slip = slip_for o next }
-told at s (read.Refused n offset) = record { code = n; slip = s }
-told at s read.End = record { code = 0; slip = end_slip at }
+told at s (entry o next) = record { code = 0; slip = slip_for o next }
+told at s (fault n offset) = record { code = n; slip = s }
+told at s no_more = record { code = 0; slip = end_slip at }
 
 abbrev pub read_by : List ℕ → ℕ → List ℕ → Outcome
 read_by l at s = told at s (read_at l at)

@@ -1,13 +1,12 @@
 -- The statistics in the rule book's terms, and what comes of them and a list of fills. Assumes nothing.
-use Rattle.std.specs.Prelude.{◌≡◌, ℕ, ◌+◌, ◌*◌, ◌/◌, ◌<◌, ◌≤◌, min, Bool, true, ◌&&◌, ◌||◌, List, nat_lt}
-use Rattle.std.proofs.Math.Option.{Option, none, some}
+use Rattle.std.specs.Prelude.{◌≡◌, ℕ, ◌+◌, ◌*◌, ◌/◌, ◌<◌, ◌≤◌, min, Bool, true, ◌&&◌, ◌||◌, List, nat_lt, Option, Some, None, is_none, Result, Ok, Err}
+use Rattle.std.proofs.Math.Option as maybe
 use Rattle.rules.specs.Rules as rule
 use Rattle.stats.specs.declared.Trade.{Trade}
-use Rattle.stats.specs.declared.LastTrade.{LastTrade}
-use Rattle.stats.specs.declared.LastTrade.TheVariants.{Absent, Present}
 use Rattle.stats.specs.declared.Statistics.{Statistics}
-use Rattle.stats.specs.declared.Recorded.{Recorded}
 use Rattle.stats.specs.declared.Totals.{Totals}
+use Rattle.models.specs.declared.Refusal.{Refusal}
+use Rattle.models.specs.Readings.{refusal_number}
 use Rattle.rows.specs.Rows.{fill_row, places, listed}
 use Rattle.sums.specs.Sums.{capped, plus_of}
 
@@ -23,9 +22,9 @@ rule_trade t =
       last_quantity = t.last_qty.0;
     }
 
-abbrev pub last_of : LastTrade → Option rule.Trade
-last_of Absent = none
-last_of (Present t) = some (rule_trade t)
+abbrev pub last_of : Option Trade → maybe.Option rule.Trade
+last_of None = maybe.none
+last_of (Some t) = maybe.some (rule_trade t)
 
 abbrev pub statistics_of : Statistics → rule.Stats
 statistics_of s = record { tracking = s.tracking; volume = s.volume.0; last = last_of s.last }
@@ -47,7 +46,7 @@ trade_for q s price quantity = record { quantity = q; average = rule.average s q
 
 -- refusal 3, from the number of fills and their totals
 unfoldable pub over_of : Statistics → ℕ → Totals → Bool
-over_of st n t = st.tracking && (nat_lt 0 n && (t.worth.over || (plus_of (capped st.volume.0) t.quantity).over))
+over_of st n t = st.tracking && (nat_lt 0 n && (is_none t.worth || is_none (plus_of (capped st.volume.0) t.quantity)))
 
 -- where tracking is on and there is something to add, the new volume fits
 abbrev pub VolumeFits : Statistics → ℕ → Type 0
@@ -59,16 +58,27 @@ VolumeFits st q = st.tracking ≡ true → 0 < q → st.volume.0 + q ≤ rule.mo
 abbrev pub fills_in : List ℕ → ℕ → List (rule.Fill (Unit {0}))
 fills_in l n = listed fill_row l (min n (places fill_row l))
 
--- the number of an answer, and the statistics that stand behind it
-abbrev pub number_of : rule.Recorded → ℕ
-number_of (rule.Recorded.refused n) = n
-number_of (rule.Recorded.recorded new) = 0
+-- the number of the refusal that a result is, if it is one
+abbrev pub refusal_in : {X : Type 0} → Result X Refusal → maybe.Option ℕ
+refusal_in (Ok x) = maybe.none
+refusal_in (Err e) = maybe.some (refusal_number e)
+
+-- the same of what the rule book says, and the statistics that stand behind it
+abbrev pub number_of : rule.Recorded → maybe.Option ℕ
+number_of (rule.Recorded.refused n) = maybe.some n
+number_of (rule.Recorded.recorded new) = maybe.none
 
 abbrev pub resulting : rule.Stats → rule.Recorded → rule.Stats
 resulting old (rule.Recorded.refused n) = old
 resulting old (rule.Recorded.recorded new) = new
 
--- r is what the rule book makes of the statistics st and the fills l: 0 with the new statistics, or the number of the refusal with the old
-pub record Follows (st : Statistics) (l : List (rule.Fill (Unit {0}))) (r : Recorded) : Type 0 where
-  pub code : r.code ≡ number_of (rule.recording l (statistics_of st))
-  pub statistics : statistics_of r.statistics ≡ resulting (statistics_of st) (rule.recording l (statistics_of st))
+-- the statistics that stand behind a result by value: those from before, where it is a refusal
+abbrev pub after : Statistics → Result Statistics Refusal → Statistics
+after old (Ok new) = new
+after old (Err e) = old
+
+-- r, with the statistics `new` behind it, is what the rule book makes of the statistics st and the fills l: the new statistics, or the number
+-- of the refusal with the old
+pub record Follows {X : Type 0} (st : Statistics) (l : List (rule.Fill (Unit {0}))) (r : Result X Refusal) (new : Statistics) : Type 0 where
+  pub code : refusal_in r ≡ number_of (rule.recording l (statistics_of st))
+  pub statistics : statistics_of new ≡ resulting (statistics_of st) (rule.recording l (statistics_of st))

@@ -2,11 +2,11 @@
 ghost use Rattle.stats.specs.Statistics.{fills_in, Follows};
 
 use crate::Statistics;
+use models::Refusal;
 
-pub fn record_fills(statistics: &mut Statistics, fills: &[u64], count: usize) -> u64
-    ensures { Follows statistics.old (fills_in fills.now count) (record { code = result; statistics = statistics.new }) }
+pub fn record_fills(statistics: &mut Statistics, fills: &[u64], count: usize) -> Result<(), Refusal>
+    ensures { Follows statistics.old (fills_in fills.now count) result statistics.new }
 {
-    let answer = statistics.recorded(fills, count);
-    *statistics = answer.statistics;
-    answer.code
+    *statistics = statistics.recorded(fills, count)?;
+    Ok(())
 }

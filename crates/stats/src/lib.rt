@@ -3,16 +3,16 @@
 
 ghost use Rattle.std.specs.Prelude.{◌≡◌, ◌*◌, ◌<◌, ◌≤◌, min, [], length};
 ghost use Rattle.rules.specs.Rules as rule;
-ghost use Rattle.stats.specs.Statistics.{statistics_of, rule_trade, totals_of, with_fill, trade_for, over_of, VolumeFits, fills_in, Follows};
+ghost use Rattle.stats.specs.Statistics.{statistics_of, rule_trade, totals_of, with_fill, trade_for, over_of, VolumeFits, fills_in, after, Follows};
 ghost use Rattle.rows.specs.Rows.{fill_row, places, listed};
 
-use models::{Price, Quantity};
-use sums::Sum;
+use models::{FillMetadata, Price, Quantity, Refusal};
+use rows::Row;
 
 pub mod bits; // bits.rt: an average as its bit pattern
 pub mod door; // door.rt: the statistics by loan
 
-#[derive(Clone, Copy)]
+#[derive(Clone, Copy, PartialEq)]
 pub struct Trade {
     pub total_qty: Quantity,
     pub avg_price: f64,
@@ -21,36 +21,18 @@ pub struct Trade {
     pub last_qty: Quantity,
 }
 
-#[derive(Clone, Copy)]
-pub enum LastTrade {
-    Absent,
-    Present(Trade),
-}
-
-#[derive(Clone, Copy)]
+#[derive(Clone, Copy, PartialEq)]
 pub struct Statistics {
     pub tracking: bool,
     pub volume: Quantity,
-    pub last: LastTrade,
+    pub last: Option<Trade>,
 }
 
-// What the statistics make of a list of fills: 0 with the new ones, or the number of the refusal with the old ones.
-#[derive(Clone, Copy)]
-pub struct Recorded {
-    pub code: u64,
-    pub statistics: Statistics,
-}
-
-// An answer's number: nothing refused, or S or the new volume too large.
-const ACCEPTED: u64 = 0;
-
-const TOO_LARGE: u64 = 3;
-
-// S and the quantity of some fills.
+// S and the quantity of some fills, each where it hasn't passed 2^64 - 1.
 #[derive(Clone, Copy)]
 pub struct Totals {
-    pub worth: Sum,
-    pub quantity: Sum,
+    pub worth: Option<u64>,
+    pub quantity: Option<u64>,
 }
 
 impl Totals {
@@ -58,8 +40,8 @@ impl Totals {
         ensures { result ≡ totals_of [] }
     {
         Totals {
-            worth: sums::exact(0),
-            quantity: sums::exact(0),
+            worth: Some(0),
+            quantity: Some(0),
         }
     }
 
@@ -67,11 +49,9 @@ impl Totals {
     pub fn with(self, price: Price, qty: Quantity) -> Totals
         ensures { result ≡ with_fill self price.0 qty.0 }
     {
-        let s = self.worth;
-        let q = self.quantity;
         Totals {
-            worth: sums::plus(s, sums::product(price, qty)),
-            quantity: sums::plus(q, sums::exact(qty.0)),
+            worth: sums::plus(self.worth, sums::product(price, qty)),
+            quantity: sums::plus(self.quantity, Some(qty.0)),
         }
     }
 }
@@ -80,8 +60,7 @@ impl Totals {
 fn counted(fills: &[u64], count: usize) -> usize
     ensures { (result ≡ min count (places fill_row fills.now)) × (result * fill_row.width ≤ length fills.now) }
 {
-    let n = rows::fill_places(fills);
-    if count < n { count } else { n }
+    count.min(FillMetadata::places(fills))
 }
 
 // The totals of the first n rows.
@@ -90,11 +69,9 @@ fn summed(fills: &[u64], n: usize) -> Totals
     ensures { result ≡ totals_of (listed fill_row fills.now n) }
 {
     let mut t = Totals::none();
-    let mut i = 0;
-    while i < n {
-        let f = rows::fill_at(fills, i);
+    for i in 0..n {
+        let f = FillMetadata::at(fills, i);
         t = t.with(f.price, f.qty);
-        i += 1;
     }
     t
 }
@@ -126,7 +103,7 @@ impl Statistics {
         Statistics {
             tracking: false,
             volume: Quantity(0),
-            last: LastTrade::Absent,
+            last: None,
         }
     }
 
@@ -134,16 +111,13 @@ impl Statistics {
     pub fn track_stats(self, track: bool) -> Statistics
         ensures { result ≡ record { tracking = track; volume = self.volume; last = self.last } }
     {
-        let volume = self.volume;
-        let last = self.last;
         Statistics {
             tracking: track,
-            volume,
-            last,
+            ..self
         }
     }
 
-    pub fn last_trade(self) -> LastTrade
+    pub fn last_trade(self) -> Option<Trade>
         ensures { result ≡ self.last }
     {
         self.last
@@ -180,7 +154,7 @@ impl Statistics {
         Statistics {
             tracking: true,
             volume: Quantity(before + filled),
-            last: LastTrade::Present(t),
+            last: Some(t),
         }
     }
 
@@ -188,45 +162,29 @@ impl Statistics {
     pub fn too_large(self, fills: usize, totals: Totals) -> bool
         ensures { result ≡ over_of self fills totals }
     {
-        let worth = totals.worth;
-        let qty = totals.quantity;
-        let volume = sums::plus(sums::exact(self.volume.0), qty);
-        if !self.tracking {
+        if !self.tracking || fills == 0 {
             return false;
         }
-        if fills == 0 {
-            return false;
-        }
-        if worth.over {
-            return true;
-        }
-        volume.over
+        totals.worth.is_none() || sums::plus(Some(self.volume.0), totals.quantity).is_none()
     }
 
     // The statistics after any list of fills: the first `count` rows of those lent, or all if they are fewer.
-    pub fn recorded(self, fills: &[u64], count: usize) -> Recorded
-        ensures { Follows self (fills_in fills.now count) result }
+    pub fn recorded(self, fills: &[u64], count: usize) -> Result<Statistics, Refusal>
+        ensures { Follows self (fills_in fills.now count) result (after self result) }
     {
         let n = counted(fills, count);
-        let t = summed(fills, n);
-        if self.too_large(n, t) {
-            return Recorded {
-                code: TOO_LARGE,
-                statistics: self,
-            };
+        let totals = summed(fills, n);
+        if self.too_large(n, totals) {
+            return Err(Refusal::SumTooLarge);
         }
         if n == 0 {
-            return Recorded {
-                code: ACCEPTED,
-                statistics: self,
-            };
+            return Ok(self);
         }
-        let last = rows::fill_at(fills, n - 1);
-        let qty = Quantity(t.quantity.sum);
-        let new = self.traded(qty, t.worth.sum, last.price, last.qty);
-        Recorded {
-            code: ACCEPTED,
-            statistics: new,
-        }
+        // A sum may still have passed 2^64 - 1 where tracking is off: then nothing is kept of it.
+        let (Some(worth), Some(filled)) = (totals.worth, totals.quantity) else {
+            return Ok(self);
+        };
+        let last = FillMetadata::at(fills, n - 1);
+        Ok(self.traded(Quantity(filled), worth, last.price, last.qty))
     }
 }

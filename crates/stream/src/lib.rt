@@ -2,7 +2,7 @@
 // Whatever fails is said on standard error, with its name.
 #![tactic(auto)]
 
-ghost use Rattle.std.specs.Prelude.{◌≡◌, true, ◌+◌, ◌-◌, ◌≤◌, length, take, drop};
+ghost use Rattle.std.specs.Prelude.{◌≡◌, ◌+◌, ◌-◌, ◌≤◌, length, take, drop, IfOk};
 ghost use Rattle.std.proofs.Math.Seq.{paste};
 
 use std::env::FillError;
@@ -16,8 +16,14 @@ const TOO_LONG: i32 = 36;
 
 const NOT_TEXT: i32 = 84;
 
-// No words of an error are longer.
+// No words of an error are longer; and what stands behind them, with the system's number.
 const WORDS: usize = 128;
+
+const OS_ERROR: &[u8] = b" (os error ";
+
+// Something failed, and was said on standard error.
+#[derive(Clone, Copy, Debug)]
+pub struct Failed;
 
 // Where the bytes come from.
 #[derive(Drop)]
@@ -35,92 +41,77 @@ impl Read for Input {
     }
 }
 
-// Where the stream comes from, and the length of its name. There is no input where it can't be opened.
+// A stream, and its name.
 #[derive(Drop)]
-pub struct Source {
-    pub input: Option<Input>,
-    pub name: usize,
+pub struct Source<'a, R = Input> {
+    pub input: R,
+    pub name: &'a [u8],
 }
 
-// What a read brought: so many bytes; the stream has ended where there are none, unless the read failed.
-#[derive(Clone, Copy)]
-pub struct Came {
-    pub bytes: usize,
-    pub ended: bool,
-    pub failed: bool,
-}
-
-// The file that the program's first argument names, or standard input where there is none; its name is put at the start of a lent buffer.
-pub fn open_source(rt: &HostRuntime, name: &mut [u8]) -> Source
-    requires { 14 ≤ length name.old }
-    ensures { (result.name ≤ length name.new) × (result.name ≡ length (take result.name name.new)) }
-{
-    let err = rt.stderr();
-    match rt.arg(1, name) {
-        Ok(length) => Source {
-            input: open_named(rt, &name[..length]),
-            name: length,
-        },
-        Err(FillError::NotPresent) => Source {
-            input: Some(Input::Standard(rt.stdin())),
-            name: put_name(name),
-        },
-        Err(FillError::TooLong) => {
-            fail(
-                &err,
+impl<'a> Source<'a> {
+    // The file that the program's first argument names, whose name is put into a lent buffer, or standard input where there is no argument.
+    pub fn open(rt: &HostRuntime, buffer: &'a mut [u8]) -> Result<Source<'a>, Failed> {
+        match rt.arg(1, buffer) {
+            Ok(length) => {
+                let name = &buffer[..length];
+                let input = open_named(rt, name)?;
+                Ok(Source { input, name })
+            }
+            Err(FillError::NotPresent) => Ok(Source {
+                input: Input::Standard(rt.stdin()),
+                name: b"standard input",
+            }),
+            Err(FillError::TooLong) => Err(fail(
+                &rt.stderr(),
                 b"the first argument",
                 io::Error::from_raw_os_error(TOO_LONG),
-            );
-            Source {
-                input: None,
-                name: 0,
-            }
+            )),
         }
+    }
+}
+
+impl<R: Read> Source<'_, R> {
+    // One read, behind the bytes that are kept, which stay as they are; the stream has ended where it brings none. A failure is said, with the name of what
+    // is read.
+    pub fn read_behind(
+        &mut self,
+        err: &impl Print,
+        buffer: &mut [u8],
+        kept: usize,
+    ) -> Result<usize, Failed>
+        requires { kept ≤ length buffer.old }
+        ensures within { IfOk result (λ bytes. kept + bytes ≤ length buffer.old) }
+        ensures kept { take kept buffer.new ≡ take kept buffer.old }
+    {
+        let name = self.name;
+        self.input
+            .read(&mut buffer[kept..])
+            .map_err(|error| fail(err, name, error))
     }
 }
 
 // The file of a name, if it can be opened.
-fn open_named(rt: &HostRuntime, name: &[u8]) -> Option<Input> {
+fn open_named(rt: &HostRuntime, name: &[u8]) -> Result<Input, Failed> {
     let opened = match std::str::from_utf8(name) {
         Ok(text) => File::open(rt, text),
         Err(_) => Err(io::Error::from_raw_os_error(NOT_TEXT)),
     };
-    match opened {
-        Ok(file) => Some(Input::Named(file)),
-        Err(error) => {
-            fail(&rt.stderr(), name, error);
-            None
-        }
-    }
-}
-
-fn put_name(name: &mut [u8]) -> usize
-    requires { 14 ≤ length name.old }
-    ensures { (result ≤ length name.new) × (result ≡ length (take result name.new)) }
-{
-    let words = b"standard input";
-    let mut i = 0;
-    while i < words.len() {
-        name[i] = words[i];
-        i += 1;
-    }
-    i
+    opened
+        .map(Input::Named)
+        .map_err(|error| fail(&rt.stderr(), name, error))
 }
 
 // Where the words of an error end: std puts the system's number behind them.
 fn words_end(text: &[u8]) -> usize
     ensures { result ≤ length text.now }
 {
-    for i in 0..text.len() {
-        if text[i..].starts_with(b" (os error ") {
-            return i;
-        }
-    }
-    text.len()
+    text.windows(OS_ERROR.len())
+        .position(|part| part == OS_ERROR)
+        .unwrap_or(text.len())
 }
 
 // A line on standard error: what failed, a colon, and the words of its error. A line that can't be written is lost.
-pub fn fail(err: &impl Print, what: &[u8], error: io::Error) {
+pub fn fail(err: &impl Print, what: &[u8], error: io::Error) -> Failed {
     let mut text = [0u8; WORDS];
     let mut left = &mut text[..];
     let _ = write!(left, "{error}");
@@ -130,6 +121,7 @@ pub fn fail(err: &impl Print, what: &[u8], error: io::Error) {
     let _ = err.write_all(b": ");
     let _ = err.write_all(&text[..end]);
     let _ = err.write_all(b"\n");
+    Failed
 }
 
 // The bytes from `from` up to `end` move to the front of the buffer; how many they are.
@@ -137,53 +129,12 @@ pub fn move_down(buffer: &mut [u8], from: usize, end: usize) -> usize
     requires { (from ≤ end) × (end ≤ length buffer.old) }
     ensures { (result ≡ end - from) × (buffer.new ≡ paste buffer.old 0 (drop from buffer.old) (end - from)) }
 {
-    let n = end - from;
-    let mut i = 0;
-    while i < n {
-        buffer[i] = buffer[from + i];
-        i += 1;
-    }
-    n
+    buffer.copy_within(from..end, 0);
+    end - from
 }
 
-// One read, behind the bytes that are kept, which stay as they are. A failure is said, with the name of what is read.
-pub fn read_behind<R: Read>(
-    from: &mut R,
-    err: &impl Print,
-    name: &[u8],
-    buffer: &mut [u8],
-    kept: usize,
-) -> Came
-    requires { kept ≤ length buffer.old }
-    ensures { (kept + result.bytes ≤ length buffer.old) × (take kept buffer.new ≡ take kept buffer.old)
-        × (result.ended ≡ true → result.bytes ≡ 0) }
-{
-    match from.read(&mut buffer[kept..]) {
-        Ok(bytes) => Came {
-            bytes,
-            ended: bytes == 0,
-            failed: false,
-        },
-        Err(error) => {
-            fail(err, name, error);
-            Came {
-                bytes: 0,
-                ended: false,
-                failed: true,
-            }
-        }
-    }
-}
-
-// The first `to` bytes of a buffer go out; whether they did.
-pub fn write_out(out: &impl Print, err: &impl Print, buffer: &[u8], to: usize) -> bool
-    requires { to ≤ length buffer.now }
-{
-    match out.write_all(&buffer[..to]) {
-        Ok(()) => true,
-        Err(error) => {
-            fail(err, b"standard output", error);
-            false
-        }
-    }
+// A text goes out.
+pub fn write_out(out: &impl Print, err: &impl Print, text: &[u8]) -> Result<(), Failed> {
+    out.write_all(text)
+        .map_err(|error| fail(err, b"standard output", error))
 }

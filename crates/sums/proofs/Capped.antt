@@ -1,21 +1,34 @@
 -- Sums that may have passed 2^64 - 1, and when a product passes it. Assumes nothing.
-use Prim.Native.Nat.{ℕ, ◌+◌, ◌*◌, ◌/◌, ◌≤◌, ◌<◌}
-use mathlib.Core.Path.{◌≡◌, refl}
-use mathlib.Core.Bool.{Bool, false, true, ◌||◌}
-use native.Mathlib.Omega.{arith}
+use Rattle.std.proofs.Common.{◌≡◌, ℕ, ◌+◌, ◌*◌, ◌≤◌, ◌<◌, ◌^◌, Option, Some, None, SomeIff, sym, ◌∙◌, arith}
 use native.Mathlib.Decide.{dec_le}
-use native.Mathlib.Nat.{div-lt_iff_lt-mul, le-div_iff_mul-le, mul-le-mul_right}
+use native.Mathlib.Nat.{mul-le-mul_right}
 use borrow.Author.Tests.{le-leb, lt-leb}
 use Rattle.rules.specs.Rules.{most}
-use Rattle.sums.specs.Sums.{passed, capped, plus_of}
+use Rattle.sums.specs.Sums.{capped, plus_of}
 
-pub capped_small : (n : ℕ) → n ≤ most → capped n ≡ record { over = false; sum = n }
+pub capped_small : (n : ℕ) → n ≤ most → capped n ≡ Some n
 unfolding capped
 capped_small n h = rw (le-leb n most h)
 
-pub capped_large : (n : ℕ) → most < n → capped n ≡ passed
+pub capped_large : (n : ℕ) → most < n → capped n ≡ None
 unfolding capped
 capped_large n h = rw (lt-leb n most h)
+
+-- a value that it has is n
+pub capped_value : (n v : ℕ) → capped n ≡ Some v → v ≡ n
+capped_value n v e = go (dec_le n most)
+  where
+    go : Dec (n ≤ most) → v ≡ n
+    go (yes p) = let f : Some v ≡ Some n = sym e ∙ capped_small n p in cc
+    go (no p) = absurd (let f : Some v ≡ None = sym e ∙ capped_large n (omega arith) in cc)
+
+pub capped_has : (n : ℕ) → n ≤ most → capped n ≡ None → ⊥
+capped_has n h e = let f : Some n ≡ None = sym (capped_small n h) ∙ e in cc
+
+-- what has a value up to 2^64 - 1 alone
+pub checked_is : (n : ℕ) (r : Option ℕ) → SomeIff r (n < 2 ^ 64) n → r ≡ capped n
+checked_is n None h = rw (capped_large n (omega (arith, h)))
+checked_is n (Some x) h = rw (h.1, capped_small n (omega (arith, h.0)))
 
 -- the running sum is exact
 pub plus_capped : (a b : ℕ) → plus_of (capped a) (capped b) ≡ capped (a + b)
@@ -27,17 +40,5 @@ plus_capped a b = go (dec_le a most) (dec_le b most)
     go (yes p) (no q) = rw (capped_small a p, capped_large b (omega arith), capped_large (a + b) (omega arith))
     go (no p) q = rw (capped_large a (omega arith), capped_large (a + b) (omega arith))
 
--- a product passes 2^64 - 1 exactly where one factor passes what that holds of the other
-pub product_over : (p q : ℕ) → 0 < q → most / q < p → most < p * q
-product_over p q h o = (div-lt_iff_lt-mul h).0 o
-
-pub product_fits : (p q : ℕ) → 0 < q → p ≤ most / q → p * q ≤ most
-product_fits p q h o = (le-div_iff_mul-le h).0 o
-
 pub product_small : (p q : ℕ) → p < 4294967296 → q < 4294967296 → p * q ≤ most
 product_small p q h k = let l : p ≤ 4294967295 = omega arith in omega (arith, mul-le-mul_right q l)
-
--- neither of two tests passes
-pub or_false : (a b : Bool) → a || b ≡ false → (a ≡ false) × (b ≡ false)
-or_false true b h = absurd (let n : ◌≡◌ {A = ℕ} 0 1 = cc in let x : ⊥ = omega arith in x)
-or_false false b h = (refl, h)

@@ -1,15 +1,13 @@
--- A sum that may have passed 2^64 - 1. Assumes nothing.
-use Rattle.std.specs.Prelude.{ℕ, ◌+◌, true, false, cond, leb}
+-- A sum that may have passed 2^64 - 1: then it has no value. Assumes nothing.
+use Rattle.std.specs.Prelude.{ℕ, ◌+◌, cond, leb, Option, Some, None}
 use Rattle.rules.specs.Rules.{most}
-use Rattle.sums.specs.declared.Sum.{Sum}
-
-abbrev pub passed : Sum
-passed = record { over = true; sum = 0 }
 
 -- n itself up to 2^64 - 1, else only that it has passed
-unfoldable pub capped : ℕ → Sum
-capped n = cond (leb n most) (record { over = false; sum = n }) passed
+unfoldable pub capped : ℕ → Option ℕ
+capped n = cond (leb n most) (Some n) None
 
 -- two such sums together
-unfoldable pub plus_of : Sum → Sum → Sum
-plus_of a b = cond a.over passed (cond b.over passed (capped (a.sum + b.sum)))
+unfoldable pub plus_of : Option ℕ → Option ℕ → Option ℕ
+plus_of None b = None
+plus_of (Some x) None = None
+plus_of (Some x) (Some y) = capped (x + y)

@@ -1,10 +1,9 @@
 -- The sums over the fills of an order, fill by fill: what `surveyed` says of the whole outcome, a walk can add up. Assumes nothing.
-use Prim.Native.Nat.{suc, zero, ℕ, ◌*◌, ◌+◌, ◌-◌, ◌<◌, ◌≤◌, min}
+use Prim.Native.Nat.{suc, zero, ℕ, ◌*◌, ◌+◌, ◌-◌, ◌≤◌, min}
 use mathlib.Core.Bool.{true}
 use mathlib.Core.List.{List, [], ◌∷◌}
 use mathlib.Core.Logic.{⊎_elim}
 use mathlib.Core.Path.{refl, sym, ◌∙◌, ◌≡◌}
-use native.Mathlib.Nat.{add-zero, sub_self}
 use native.Mathlib.Omega.{arith}
 use lib.Dec.{eqb, leb}
 use lib.ListN.{length}
@@ -13,13 +12,11 @@ use Rattle.rules.specs.Rules.{Fill, Order, Taker, fill_from, filling, matching, 
 use Rattle.rules.specs.Whole.{one}
 use Rattle.rules.proofs.Match.{given_within}
 use Rattle.rules.proofs.Turns.{gains}
-use Rattle.records.specs.Rows.{field}
 use Rattle.records.proofs.Cases.{le?}
-use Rattle.sums.specs.declared.Sum.{Sum}
 use Rattle.sums.specs.Sums.{capped, plus_of}
 use Rattle.sums.proofs.Capped.{plus_capped}
 use Rattle.survey.specs.declared.Outlook.{Outlook}
-use Rattle.survey.specs.Surveyed.{met, surveyed, wholes}
+use Rattle.survey.specs.Surveyed.{surveyed, wholes}
 
 -- one fill more
 abbrev pub add : Outlook → Fill (Unit {0}) → Outlook
@@ -70,17 +67,3 @@ module _ (t : Taker (Unit {0})) (w : ℕ) (m : Order (Unit {0})) (l : List (Orde
   pub next_fill : (matching t w (m ∷ l)).fills ≡ fill_from t m (min m.quantity w) (leb m.quantity w) ∷ (matching t (w - min m.quantity w) l).fills
   unfolding matching
   next_fill = rw (given_within t w m e, filling_is t m (min m.quantity w) (matching t (w - min m.quantity w) l).fills (omega arith), whole_is m.quantity w)
-
--- as the code works it out: q and p are the maker's quantity and price, v what a fill of it comes to, and z the sum then
-module _ (rs : List ℕ) (c : ℕ) (s : Outlook) {q p : ℕ} {v z : Sum} (e : q ≡ field rs 1 c) (f : p ≡ field rs 2 c) where
-  pub met_whole : q ≤ s.left.0 → v ≡ capped (p * q) → z ≡ plus_of s.worth v
-      → ◌≡◌ {A = Outlook} (record { left = record { 0 = s.left.0 - q }; fills = s.fills + 1; used = s.used + 1; worth = z }) (met rs c s)
-  met_whole h x y =
-      let g : min q s.left.0 ≡ q = omega arith in
-      rw (← e, ← f, g, le-leb q s.left.0 h, y, x)
-
-  pub met_part : s.left.0 < q → v ≡ capped (p * s.left.0) → z ≡ plus_of s.worth v
-      → ◌≡◌ {A = Outlook} (record { left = record { 0 = 0 }; fills = s.fills + 1; used = s.used; worth = z }) (met rs c s)
-  met_part h x y =
-      let g : min q s.left.0 ≡ s.left.0 = omega arith in
-      rw (← e, ← f, g, lt-leb q s.left.0 h, y, x, sub_self s.left.0, add-zero s.used)

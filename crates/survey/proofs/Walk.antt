@@ -116,7 +116,7 @@ module _ (rs lv : List ℕ) (n : ℕ) (u : Taker) where
       module _ (h : 1 ≤ k) {i : ℕ} (e : i ≡ row_in_turn (met_side u) n k) (b : i < n) where
         pub prices_beyond : meets u (price_of lv i) ≡ false → Along s (ahead rs lv n u k) → Comes s
         prices_beyond f a = along_beyond (λ x j.
-            within_worse (side_of u.side) (kind_of u.any u.limit.0) (nth (levels_in rs lv n) i).price (field rs 2 x)
+            within_worse (side_of u.side) (kind_of u.limit) (nth (levels_in rs lv n) i).price (field rs 2 x)
             (rw e (coming_worse (met_side u) m.laid.ladder k x h g j)) (rw (price_is i b) at f)) a
 
         pub queue_start : meets u (price_of lv i) ≡ true → Along s (ahead rs lv n u k) → Inside s (k - 1) (head_of lv i)

@@ -14,38 +14,37 @@ use arena::{HEAD, ROW};
 use models::{Id, Price, Quantity, Side};
 use records::{NEXT, PRICE, QUANTITY, load};
 use side::visit;
-use sums::{Sum, plus, product};
+use sums::{plus, product};
 
-// An order that comes in: it meets any price, or those as good as its limit.
+// An order that comes in: it meets the prices as good as its limit, or any where it has none.
 #[derive(Clone, Copy)]
 pub struct Taker {
     pub id: Id,
     pub side: Side,
-    pub any: bool,
-    pub limit: Price,
+    pub limit: Option<Price>,
     pub qty: Quantity,
 }
 
-// What an order would do: what is left of it, how many fills it has, how many makers it uses up, and the sum of price times quantity.
+// What an order would do: what is left of it, how many fills it has, how many makers it uses up, and the sum of price times quantity
+// where that hasn't passed 2^64 - 1.
 #[derive(Clone, Copy)]
 pub struct Outlook {
     pub left: Quantity,
     pub fills: usize,
     pub used: usize,
-    pub worth: Sum,
+    pub worth: Option<u64>,
 }
 
 // Whether the order meets a price.
 pub fn reaches(t: Taker, price: Price) -> bool
     ensures { result ≡ meets t price.0 }
 {
-    if t.any {
+    let Some(limit) = t.limit else {
         return true;
-    }
-    let side = t.side;
-    match side {
-        Side::Bid => price.0 <= t.limit.0,
-        Side::Ask => t.limit.0 <= price.0,
+    };
+    match t.side {
+        Side::Bid => price.0 <= limit.0,
+        Side::Ask => limit.0 <= price.0,
     }
 }
 
@@ -57,24 +56,22 @@ fn meet(records: &[u64], c: u64, s: Outlook) -> Outlook
     let quantity = load(records, QUANTITY, c);
     let price = Price(load(records, PRICE, c));
     let left = s.left.0;
-    let worth = s.worth;
     let fills = s.fills + 1;
     if quantity <= left {
-        let used = s.used + 1;
-        let sum = plus(worth, product(price, Quantity(quantity)));
+        let worth = plus(s.worth, product(price, Quantity(quantity)));
         return Outlook {
             left: Quantity(left - quantity),
             fills,
-            used,
-            worth: sum,
+            used: s.used + 1,
+            worth,
         };
     }
-    let sum = plus(worth, product(price, Quantity(left)));
+    let worth = plus(s.worth, product(price, s.left));
     Outlook {
         left: Quantity(0),
         fills,
         used: s.used,
-        worth: sum,
+        worth,
     }
 }
 
@@ -85,20 +82,18 @@ pub fn survey(records: &[u64], levels: &[u64], n: usize, t: Taker) -> Outlook
         → result ≡ surveyed (outcome (taker_of room t) (orders_in (met_side t) records.now fnd levels.now n)) }
 {
     let mut s = Outlook {
-        left: Quantity(t.qty.0),
+        left: t.qty,
         fills: 0,
         used: 0,
-        worth: Sum {
-            over: false,
-            sum: 0,
-        },
+        worth: Some(0),
     };
-    let side = t.side;
-    let makers = side.opposite();
-    let mut k = n;
     if t.qty.0 == 0 {
         return s;
     }
+    let side = t.side;
+    let makers = side.opposite();
+    let mut k = n;
+    // Stay walks by hand, one within the other and the outer left by its label: document 01 names this form (docs/DECISIONS.md).
     'prices: while 0 < k {
         let at = visit(makers, n, k) * ROW;
         if !reaches(t, Price(levels[at])) {

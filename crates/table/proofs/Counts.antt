@@ -1,12 +1,16 @@
 -- What is found at home, and the taken places one after another. Assumes nothing.
-use Prim.Native.Nat.{suc, ℕ, ◌+◌, ◌-◌, ◌<◌, ◌≤◌}
-use mathlib.Core.List.{List}
-use mathlib.Core.Logic.{◌≢◌}
-use mathlib.Core.Path.{ap, ◌∙◌, ◌≡◌}
+use Prim.Native.Nat.{suc, zero, ℕ, ◌+◌, ◌<◌, ◌≤◌}
+use mathlib.Core.Bool.{Bool, cond, false, not, true}
+use mathlib.Core.List.{List, [], ◌∷◌}
+use mathlib.Core.Path.{ap, refl, ◌∙◌, ◌≡◌}
 use native.Mathlib.Nat.{sub-zero}
 use native.Mathlib.Omega.{arith}
-use lib.ListN.{length}
-use borrow.Author.Tests.{eq-eqb, ne_eqb}
+use lib.Dec.{eqb}
+use lib.ListN.{length, take}
+use Rattle.std.specs.List.{count_by}
+use Rattle.std.proofs.lemmas.List.{take_all}
+use Rattle.std.proofs.lemmas.List.Sums.{sum_by-cons}
+use Rattle.rules.specs.Whole.{one}
 use Rattle.records.specs.Rows.{RecordAt, field}
 use Rattle.search.specs.Seek.{at, entry_for, home}
 use Rattle.search.proofs.Entries.{row_inside}
@@ -19,24 +23,19 @@ home_found se rs id c h r i e =
     let s = turn_stop se rs id (home (length se) id) 0 h (rw e (stops_named rs id c (row_inside r) i)) in
     ap (λ w. w.entry) (rw sub-zero at s) ∙ e
 
--- n places are taken if none behind the first p is free
-pub record Counted (se : List ℕ) (n p : ℕ) : Type 0 where
-  pub below : p ≤ length se
-  pub is : n + p ≡ taken_to se p + length se
+-- the places are the free ones and the taken ones
+taken_cons : (e : ℕ) (se : List ℕ) (k : ℕ) → taken_to (e ∷ se) (suc k) ≡ one (not (eqb e 0)) + taken_to se k
+taken_cons e se zero = refl
+taken_cons e se (suc k) = omega (arith, taken_cons e se k)
 
-pub counted_none : (se : List ℕ) → Counted se (length se) 0
-counted_none se = record { below = omega arith; is = omega arith }
+either : (b : Bool) → one (not b) + cond b 1 0 ≡ 1
+either true = refl
+either false = refl
 
-pub counted_all : {se : List ℕ} {n p : ℕ} → Counted se n p → length se ≤ p → n ≡ taken_in se
-counted_all {se} {n} {p} k h = let e : p ≡ length se = omega (arith, k.below) in omega (arith, k.is, ap (taken_to se) e)
+taken_free : (se : List ℕ) → taken_in se + count_by (λ (x : ℕ). eqb x 0) se ≡ length se
+taken_free [] = refl
+taken_free (e ∷ se) = rw (taken_cons e se (length se), sum_by-cons (λ (x : ℕ). cond (eqb x 0) 1 0) e se) (omega (arith, either (eqb e 0), taken_free se))
 
--- one place more
-next : (p : ℕ) → p + 1 ≡ suc p
-next p = omega arith
-
-module _ {se : List ℕ} {n p m : ℕ} (k : Counted se n p) (h : p < length se) where
-  pub counted_free : at se p ≡ 0 → m ≡ n - 1 → Counted se m (p + 1)
-  counted_free d e = record { below = omega arith; is = rw (next p, eq-eqb (at se p) 0 d) (omega (arith, k.is)) }
-
-  pub counted_taken : at se p ≢ 0 → m ≡ n → Counted se m (p + 1)
-  counted_taken d e = record { below = omega arith; is = rw (next p, ne_eqb (at se p) 0 d) (omega (arith, k.is)) }
+-- n are left when the free ones of the first i, of all, went
+pub taken_all : (se : List ℕ) (n i : ℕ) → n + count_by (λ (x : ℕ). eqb x 0) (take i se) ≡ length se → length se ≤ i → n ≡ taken_in se
+taken_all se n i h l = omega (arith, taken_free se, rw (take_all i se l) at h)

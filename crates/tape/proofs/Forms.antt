@@ -13,39 +13,40 @@ use Rattle.models.specs.declared.Side.{Side}
 use Rattle.models.specs.declared.Side.TheVariants.{Bid, Ask}
 use Rattle.models.specs.declared.OrderType.{OrderType}
 use Rattle.models.specs.declared.OrderType.TheVariants.{Market, Limit, Cancel}
+use Rattle.models.specs.Readings.{side_number}
 use Rattle.fields.specs.Bytes.{Bytes, number, bytes}
 use Rattle.fields.specs.Fields.{header, field, tag_in, length_in, value_in, stump, cut_off}
 use Rattle.fields.proofs.Numbers.{bytes_length, number_bytes, bytes_number, number_below, bytes_drop}
-use Rattle.tape.specs.Orders.{length_of, side_byte, side_in, order_in, Item, order, unless_refused, item, number_of_side, tag_for, wish_of, value_of, field_of}
+use Rattle.tape.specs.Orders.{length_of, side_byte, side_in, order_in, Item, order, unless_refused, item, tag_for, wish_of, value_of, field_of}
 use Rattle.tape.specs.Tape.{Fits}
 use Rattle.tape.proofs.Tags.{Tagged, market, limit, cancel, unknown, tagged, length_market, length_limit, length_cancel, wish_length, value_length, value_most, field_length, order_market, order_limit, order_cancel}
 use Rattle.tape.proofs.Items.{odd_in, results, meant, judged, item_order}
 
 -- ---- what is written reads back
 
-side_back : (s : Side) → cond (eqb (number_of_side s) 0) Bid Ask ≡ s
+side_back : (s : Side) → cond (eqb (side_number s) 0) Bid Ask ≡ s
 side_back Bid = refl
 side_back Ask = refl
 
-side_small : (s : Side) → ltb 1 (number_of_side s) ≡ false
+side_small : (s : Side) → ltb 1 (side_number s) ≡ false
 side_small Bid = refl
 side_small Ask = refl
 
 -- the parts of a wish, whatever follows it
 module _ (i : ℕ) (s : Side) (q : ℕ) (r : List ℕ) where
-  wish_is : wish_of i s q ++ r ≡ bytes 8 i ++ (number_of_side s ∷ (bytes 8 q ++ r))
-  wish_is = append_assoc (bytes 8 i) (number_of_side s ∷ bytes 8 q) r
+  wish_is : wish_of i s q ++ r ≡ bytes 8 i ++ (side_number s ∷ (bytes 8 q ++ r))
+  wish_is = append_assoc (bytes 8 i) (side_number s ∷ bytes 8 q) r
 
   wish_id : i < 2 ^ 64 → number 8 (wish_of i s q ++ r) ≡ i
-  wish_id h = ap (number 8) wish_is ∙ number_bytes 8 i (number_of_side s ∷ (bytes 8 q ++ r)) h
+  wish_id h = ap (number 8) wish_is ∙ number_bytes 8 i (side_number s ∷ (bytes 8 q ++ r)) h
 
-  wish_side : side_byte (wish_of i s q ++ r) ≡ number_of_side s
-  wish_side = ap side_byte wish_is ∙ get_or_at (bytes 8 i) (number_of_side s) (bytes 8 q ++ r) 0 8 (bytes_length 8 i)
+  wish_side : side_byte (wish_of i s q ++ r) ≡ side_number s
+  wish_side = ap side_byte wish_is ∙ get_or_at (bytes 8 i) (side_number s) (bytes 8 q ++ r) 0 8 (bytes_length 8 i)
 
   wish_behind : drop 9 (wish_of i s q ++ r) ≡ bytes 8 q ++ r
   wish_behind =
-      ap (drop 9) (wish_is ∙ sym (append_assoc (bytes 8 i) (number_of_side s ∷ []) (bytes 8 q ++ r)))
-      ∙ drop_at (bytes 8 i ++ (number_of_side s ∷ [])) (bytes 8 q ++ r) 9 (omega (arith, length-append (bytes 8 i) (number_of_side s ∷ []), bytes_length 8 i))
+      ap (drop 9) (wish_is ∙ sym (append_assoc (bytes 8 i) (side_number s ∷ []) (bytes 8 q ++ r)))
+      ∙ drop_at (bytes 8 i ++ (side_number s ∷ [])) (bytes 8 q ++ r) 9 (omega (arith, length-append (bytes 8 i) (side_number s ∷ []), bytes_length 8 i))
 
   wish_quantity : q < 2 ^ 64 → number 8 (drop 9 (wish_of i s q ++ r)) ≡ q
   wish_quantity h = ap (number 8) wish_behind ∙ number_bytes 8 q r h
@@ -173,10 +174,10 @@ ordered (b ∷ l) o k h =
     }
 
 -- the byte of a side is the side's number
-side_is : (n : ℕ) → ltb 1 n ≡ false → number_of_side (cond (eqb n 0) Bid Ask) ≡ n
+side_is : (n : ℕ) → ltb 1 n ≡ false → side_number (cond (eqb n 0) Bid Ask) ≡ n
 side_is n h = go (eqb n 0) refl
   where
-    go : (b : Bool) → eqb n 0 ≡ b → number_of_side (cond b Bid Ask) ≡ n
+    go : (b : Bool) → eqb n 0 ≡ b → side_number (cond b Bid Ask) ≡ n
     go true e = sym (eqb-true n 0 e)
     go false e = omega (arith, eqb-false n 0 e, ltb-false 1 n h)
 
@@ -185,7 +186,7 @@ module _ (v : List ℕ) (by : Bytes v) where
   wish_only h s =
       let a : bytes 8 (number 8 v) ≡ take 8 v = bytes_number 8 v by (omega arith) in
       let b : bytes 8 (number 8 (drop 9 v)) ≡ take 8 (drop 9 v) = bytes_number 8 (drop 9 v) (bytes_drop 9 v by) (omega (arith, length-drop 9 v)) in
-      let c : number_of_side (side_in v) ≡ side_byte v = side_is (side_byte v) s in
+      let c : side_number (side_in v) ≡ side_byte v = side_is (side_byte v) s in
       let d : take 9 (drop 8 v) ≡ get_or v 8 0 ∷ take 8 (drop 9 v) = ap (take 9) (drop-cons v 8 0 (omega arith)) in
       rw (a, b, c) (sym (take-add 8 9 v ∙ ap (λ (x : List ℕ). take 8 v ++ x) d))
 

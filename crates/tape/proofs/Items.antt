@@ -8,7 +8,9 @@ use lib.Dec.{eqb}
 use lib.ListN.{length}
 use borrow.Author.Tests.{eq-eqb, ne_eqb}
 use Rattle.rules.specs.Rules.{first_of}
-use Rattle.fields.specs.declared.Front.TheVariants.{End, Stump, Header}
+use Rattle.std.specs.Prelude.{Option, None, Some, Result, Ok, Err}
+use Rattle.fields.specs.declared.Header.{Header}
+use Rattle.fields.specs.declared.Stump.{Stump}
 use Rattle.fields.specs.Fields.{header, tag_in, length_in, value_in, stump, cut_off, front_of}
 use Rattle.tape.specs.Orders.{length_of, order_in, odd_side, checks, Item, order, refused, nothing, unless_refused, item}
 
@@ -20,6 +22,16 @@ meant l = order (order_in (tag_in l) (value_in l)) (header + length_in l)
 abbrev pub odd_in : List ℕ → Bool
 odd_in l = odd_side (tag_in l) (value_in l)
 
+-- the header that begins a field, and what stands in its place
+abbrev pub begun : Header → Result (Option Header) Stump
+begun h = Ok (Some h)
+
+abbrev pub short : Result (Option Header) Stump
+short = Err (record {})
+
+abbrev pub header_in : List ℕ → Header
+header_in l = record { tag = tag_in l; length = length_in l }
+
 -- the tests with their results
 abbrev pub results : Bool → Bool → Bool → Bool → Bool → List (ℕ × Bool)
 results a b c d e = (11, a) ∷ (8, b) ∷ (9, c) ∷ (11, d) ∷ (10, e) ∷ []
@@ -29,21 +41,21 @@ unfolding item checks
 judged [] h = absurd (let x : ⊥ = omega arith in x)
 judged (b ∷ l) h = refl
 
-pub item_end : (l : List ℕ) → End ≡ front_of l → item l ≡ nothing
+pub item_end : (l : List ℕ) → Ok None ≡ front_of l → item l ≡ nothing
 unfolding item
 item_end [] e = refl
 item_end (b ∷ l) e = absurd (go (stump (b ∷ l)) e)
   where
-    go : (s : Bool) → End ≡ cond s Stump (Header (tag_in (b ∷ l)) (length_in (b ∷ l))) → ⊥
+    go : (s : Bool) → Ok None ≡ cond s short (begun (header_in (b ∷ l))) → ⊥
     go true e = let z : ◌≡◌ {A = ℕ} 0 1 = cc in omega arith
     go false e = let z : ◌≡◌ {A = ℕ} 0 1 = cc in omega arith
 
-pub item_stump : (l : List ℕ) → Stump ≡ front_of l → item l ≡ refused 11
+pub item_stump : (l : List ℕ) → short ≡ front_of l → item l ≡ refused 11
 unfolding item checks first_of
 item_stump [] e = absurd (let z : ◌≡◌ {A = ℕ} 0 1 = cc in let x : ⊥ = omega arith in x)
 item_stump (b ∷ l) e = go (stump (b ∷ l)) refl e
   where
-    go : (s : Bool) → stump (b ∷ l) ≡ s → Stump ≡ cond s Stump (Header (tag_in (b ∷ l)) (length_in (b ∷ l))) → item (b ∷ l) ≡ refused 11
+    go : (s : Bool) → stump (b ∷ l) ≡ s → short ≡ cond s short (begun (header_in (b ∷ l))) → item (b ∷ l) ≡ refused 11
     go true p e = rw p
     go false p e = absurd (let z : ◌≡◌ {A = ℕ} 0 1 = cc in let x : ⊥ = omega arith in x)
 
@@ -54,11 +66,11 @@ pub record Headed (l : List ℕ) (t n : ℕ) : Type 0 where
   pub tag : t ≡ tag_in l
   pub said : n ≡ length_in l
 
-pub headed : (l : List ℕ) (t n : ℕ) → Header t n ≡ front_of l → Headed l t n
-headed [] t n e = absurd (let z : ◌≡◌ {A = ℕ} 0 1 = cc in let x : ⊥ = omega arith in x)
-headed (b ∷ l) t n e = go (stump (b ∷ l)) refl e
+pub headed : (l : List ℕ) (h : Header) → begun h ≡ front_of l → Headed l h.tag h.length
+headed [] h e = absurd (let z : ◌≡◌ {A = ℕ} 0 1 = cc in let x : ⊥ = omega arith in x)
+headed (b ∷ l) h e = go (stump (b ∷ l)) refl e
   where
-    go : (s : Bool) → stump (b ∷ l) ≡ s → Header t n ≡ cond s Stump (Header (tag_in (b ∷ l)) (length_in (b ∷ l))) → Headed (b ∷ l) t n
+    go : (s : Bool) → stump (b ∷ l) ≡ s → begun h ≡ cond s short (begun (header_in (b ∷ l))) → Headed (b ∷ l) h.tag h.length
     go true p e = absurd (let z : ◌≡◌ {A = ℕ} 0 1 = cc in let x : ⊥ = omega arith in x)
     go false p e = record { some = omega arith; whole = p; tag = cc; said = cc }
 

@@ -9,16 +9,17 @@ use borrow.Author.Tests.{leb-true}
 use Rattle.overlay.specs.Over.{over, Put}
 use Rattle.overlay.proofs.Over.{put_more, put_none, put_over, put_stands}
 use Rattle.models.specs.declared.OrderType.{OrderType}
-use Rattle.tape.specs.declared.Written.TheVariants.{Next, Refused}
+use Rattle.std.specs.Prelude.{Ok, Err}
+use Rattle.models.specs.declared.Refusal.TheVariants.{ShortRoom}
 use Rattle.tape.specs.Orders.{field_of, fits, written_at, written_to}
 use Rattle.tape.specs.Tape.{ended, read_tape, tape_of, AllFit, Wrote, begun, further, between}
 use Rattle.tape.proofs.Tapes.{reads_back}
 
 -- an order that was written
-one_put : (l : List ℕ) (at next : ℕ) (o : OrderType) → written_at l at o ≡ Next next → Put l at (field_of o) (written_to l at o) next
+one_put : (l : List ℕ) (at next : ℕ) (o : OrderType) → written_at l at o ≡ Ok next → Put l at (field_of o) (written_to l at o) next
 one_put l at next o e = go (fits l at o) refl e
   where
-    go : (b : Bool) → fits l at o ≡ b → cond b (Next (at + length (field_of o))) (Refused 19) ≡ Next next → Put l at (field_of o) (cond b (over l at (field_of o)) l) next
+    go : (b : Bool) → fits l at o ≡ b → cond b (Ok (at + length (field_of o))) (Err ShortRoom) ≡ Ok next → Put l at (field_of o) (cond b (over l at (field_of o)) l) next
     go true f e = put_over l at (field_of o) (over l at (field_of o)) next (leb-true _ _ f) (let z : at + length (field_of o) ≡ next = cc in sym z) refl
     go false f e = absurd (let z : ◌≡◌ {A = ℕ} 0 1 = cc in let x : ⊥ = omega arith in x)
 

@@ -1,8 +1,7 @@
 -- What a tape reads as, and the tape that is written for some orders. Assumes nothing.
-use Rattle.std.specs.Prelude.{ℕ, zero, suc, ◌+◌, ◌-◌, ◌<◌, ◌^◌, ◌≡◌, List, [], ◌∷◌, ◌++◌, length, take, drop}
+use Rattle.std.specs.Prelude.{ℕ, zero, suc, ◌+◌, ◌-◌, ◌<◌, ◌^◌, ◌≡◌, List, [], ◌∷◌, ◌++◌, length, take, drop, Ok}
 use Rattle.models.specs.declared.OrderType.{OrderType}
 use Rattle.models.specs.declared.OrderType.TheVariants.{Market, Limit, Cancel}
-use Rattle.tape.specs.declared.Written.TheVariants.{Next}
 use Rattle.tape.specs.Orders.{Item, order, refused, nothing, item, field_of, written_at, written_to}
 
 -- a tape is read to its end, or to a bad field: its refusal's number and its offset
@@ -69,7 +68,7 @@ pub data AllFit : List OrderType → Type 0 where
 -- Orders written one after another into the list l from the place `at` on, none of them refused: what stands afterwards, and the place behind the last.
 pub data Wrote : List ℕ → ℕ → List OrderType → List ℕ → ℕ → Type 0 where
   begun : {l : List ℕ} {at : ℕ} → Wrote l at [] l at
-  further : {l l' : List ℕ} {at next behind : ℕ} {o : OrderType} {os : List OrderType} → written_at l at o ≡ Next next
+  further : {l l' : List ℕ} {at next behind : ℕ} {o : OrderType} {os : List OrderType} → written_at l at o ≡ Ok next
       → Wrote (written_to l at o) next os l' behind → Wrote l at (o ∷ os) l' behind
 
 -- the bytes between two places

@@ -3,63 +3,103 @@
 #![tactic(auto)]
 
 ghost use Rattle.std.specs.Prelude.{◌≡◌};
-ghost use Rattle.tape.specs.Orders.{length_of};
+ghost use Rattle.tape.specs.Orders.{length_of, tag_for, tag_of, IsKindOf};
 
-use models::OrderType;
+use models::{OrderType, Refusal};
 
-// Tags.
-pub const MARKET: u8 = 1;
+// The kinds of order.
+#[derive(Clone, Copy, PartialEq, Eq)]
+pub enum Kind {
+    Market,
+    Limit,
+    Cancel,
+}
 
-pub const LIMIT: u8 = 2;
+// Their tags, which document 01 gives.
+const MARKET: u64 = 1;
 
-pub const CANCEL: u8 = 3;
+const LIMIT: u64 = 2;
 
-// Refusals: an unknown tag, a wrong length for the tag, a side above 1, a field cut off, short room.
-pub const UNKNOWN_TAG: u64 = 8;
-
-pub const WRONG_LENGTH: u64 = 9;
-
-pub const WRONG_SIDE: u64 = 10;
-
-pub const CUT_OFF: u64 = 11;
-
-pub const SHORT_ROOM: u64 = 19;
+const CANCEL: u64 = 3;
 
 // Numbers have 8 bytes.
 pub const NUMBER: usize = 8;
 
-// The number of the ask side; a bid's is 0, and no other is a side's.
-pub const ASK: u8 = 1;
-
 // The longest field: tag, length, and the value of a limit order.
 pub const LONGEST: usize = 28;
 
-// An order with the place behind it; a refusal with the place of its field; or the end.
+// An order that was read, with the place behind it.
 #[derive(Clone, Copy)]
-pub enum Read {
-    Order(OrderType, usize),
-    Refused(u64, usize),
-    End,
+pub struct Entry {
+    pub order: OrderType,
+    pub next: usize,
 }
 
-// The place behind an order, or a refusal.
+// Why a field is refused, with its place.
 #[derive(Clone, Copy)]
-pub enum Written {
-    Next(usize),
-    Refused(u64),
+pub struct Fault {
+    pub refusal: Refusal,
+    pub place: usize,
 }
 
-// The length of an order's value by its tag; 0 where no order has the tag.
-pub fn length_of(tag: u8) -> usize
-    ensures { result ≡ length_of tag }
-{
-    if tag == MARKET {
-        17
-    } else if tag == LIMIT {
-        25
-    } else if tag == CANCEL {
-        8
-    } else {
-        0
+// A kind's tag.
+impl From<Kind> for u64 {
+    ghost from_gives = { λ kind n. n ≡ tag_of kind };
+
+    fn from(kind: Kind) -> u64 {
+        match kind {
+            Kind::Market => MARKET,
+            Kind::Limit => LIMIT,
+            Kind::Cancel => CANCEL,
+        }
+    }
+}
+
+// The kind of a tag; any other is refused.
+impl TryFrom<u64> for Kind {
+    type Error = Refusal;
+
+    ghost try_from_gives = { IsKindOf };
+
+    #[tactic(auto, unfolding(crate::specs::Orders::length_of))]
+    fn try_from(tag: u64) -> Result<Kind, Refusal> {
+        match tag {
+            MARKET => Ok(Kind::Market),
+            LIMIT => Ok(Kind::Limit),
+            CANCEL => Ok(Kind::Cancel),
+            _ => Err(Refusal::UnknownTag),
+        }
+    }
+}
+
+// An order's kind.
+impl From<OrderType> for Kind {
+    ghost from_gives = { λ order kind. tag_of kind ≡ tag_for order };
+
+    fn from(order: OrderType) -> Kind {
+        match order {
+            OrderType::Market { id, side, qty } => Kind::Market,
+            OrderType::Limit {
+                id,
+                side,
+                qty,
+                price,
+            } => Kind::Limit,
+            OrderType::Cancel { id } => Kind::Cancel,
+        }
+    }
+}
+
+impl Kind {
+    // The length of a value.
+    #[tactic(auto, unfolding(crate::specs::Orders::length_of))]
+    pub fn length(self) -> usize
+        ensures { result ≡ length_of (tag_of self) }
+    {
+        match self {
+            Kind::Market => 17,
+            Kind::Limit => 25,
+            Kind::Cancel => 8,
+        }
     }
 }

@@ -1,111 +1,93 @@
-// What the programs print in common, said once: texts and numbers, an order, what the desk answers to it, fills, quotes. Everything goes to standard
-// output, any value can be told, and what can't be written is passed over.
+// What the programs print in common, said once: an order, what the desk answers to it, fills, quotes. Everything goes to standard output, any value can be
+// told, and what can't be written is passed over.
 #![tactic(auto)]
 
-use depth::Quote;
-use desk::Answer;
-use models::{FillMetadata, OrderEvent, OrderType, Side};
-use questions::Quoted;
+use fields::Output;
+use models::{FillMetadata, OrderEvent, OrderType, Price, Refusal, Side};
 use reply::count_of;
+use rows::Row;
 use text::{LINE, put_event, put_fill};
 
-pub fn put(rt: &impl Print, text: &[u8]) {
-    let _ = rt.write_all(text);
-}
-
-// A text, then a number.
-pub fn number(rt: &impl Print, text: &[u8], n: u64) {
-    put(rt, text);
-    let _ = rt.print(n);
-}
-
-// The same, and the line's end.
-pub fn line(rt: &impl Print, text: &[u8], n: u64) {
-    number(rt, text, n);
-    put(rt, b"\n");
-}
-
-fn wish(rt: &impl Print, id: u64, side: Side, qty: u64) {
+fn word(side: Side) -> &'static str {
     match side {
-        Side::Bid => put(rt, b"bid "),
-        Side::Ask => put(rt, b"ask "),
+        Side::Bid => "bid",
+        Side::Ask => "ask",
     }
-    number(rt, b"", id);
-    number(rt, b": ", qty);
 }
 
 // What came in: `bid 4: 8 at 104`, `bid 6: 12 at any price`, `cancel 1`.
-pub fn order(rt: &impl Print, o: OrderType) {
-    match o {
+pub fn order(rt: &impl Print, order: OrderType) {
+    let _ = match order {
         OrderType::Market { id, side, qty } => {
-            wish(rt, id.0, side, qty.0);
-            put(rt, b" at any price\n");
+            println!(rt; "{} {}: {} at any price", word(side), id.0, qty.0)
         }
         OrderType::Limit {
             id,
             side,
             qty,
             price,
-        } => {
-            wish(rt, id.0, side, qty.0);
-            line(rt, b" at ", price.0);
-        }
-        OrderType::Cancel { id } => line(rt, b"cancel ", id.0),
-    }
+        } => println!(rt; "{} {}: {} at {}", word(side), id.0, qty.0, price.0),
+        OrderType::Cancel { id } => println!(rt; "cancel {}", id.0),
+    };
 }
 
 pub fn tracking(rt: &impl Print, on: bool) {
-    if on {
-        put(rt, b"tracking on\n");
-    } else {
-        put(rt, b"tracking off\n");
-    }
+    let word = if on { "on" } else { "off" };
+    let _ = println!(rt; "tracking {word}");
 }
 
-// A fill's line.
-fn fill(rt: &impl Print, f: FillMetadata) {
-    let mut line = [0u8; LINE];
-    let n = put_fill(&mut line, 0, f);
-    put(rt, &line[..n]);
+// A fill's line. It stays beside `event`, five lines each: one function for both would take a closure that asks for room.
+fn fill(rt: &impl Print, fill: FillMetadata) {
+    let mut bytes = [0u8; LINE];
+    let mut line = Output {
+        bytes: &mut bytes,
+        at: 0,
+    };
+    put_fill(&mut line, fill);
+    let end = line.at;
+    let _ = rt.write_all(&bytes[..end]);
 }
 
 // The first `count` fills of the rows lent, a line each; fewer where there are fewer rows.
 pub fn fills(rt: &impl Print, rows: &[u64], count: usize) {
-    let n = rows::fill_places(rows);
-    let mut i = 0;
-    while i < n {
-        if i < count {
-            fill(rt, rows::fill_at(rows, i));
-        }
-        i += 1;
+    for i in 0..count.min(FillMetadata::places(rows)) {
+        fill(rt, FillMetadata::at(rows, i));
     }
 }
 
 // An event's own line, `Placed 1` or `Filled 4 8 2`: id, and where there are fills their quantity and number.
-pub fn event(rt: &impl Print, e: OrderEvent) {
-    let mut line = [0u8; LINE];
-    let n = put_event(&mut line, 0, e);
-    put(rt, &line[..n]);
+pub fn event(rt: &impl Print, event: OrderEvent) {
+    let mut bytes = [0u8; LINE];
+    let mut line = Output {
+        bytes: &mut bytes,
+        at: 0,
+    };
+    put_event(&mut line, event);
+    let end = line.at;
+    let _ = rt.write_all(&bytes[..end]);
 }
 
-// A refusal by its number, `Refused 4`; or the event and a line a fill.
-pub fn answer(rt: &impl Print, a: Answer, rows: &[u64]) {
-    match a {
-        Answer::Refused(n) => line(rt, b"Refused ", n),
-        Answer::Done(e) => {
-            event(rt, e);
-            fills(rt, rows, count_of(e));
+// A refusal by its number, `Refused 4`.
+pub fn refused(rt: &impl Print, refusal: Refusal) {
+    let _ = println!(rt; "Refused {}", u64::from(refusal));
+}
+
+// A refusal; or the event and a line a fill.
+pub fn answer(rt: &impl Print, answer: Result<OrderEvent, Refusal>, rows: &[u64]) {
+    match answer {
+        Ok(told) => {
+            event(rt, told);
+            fills(rt, rows, count_of(told));
         }
+        Err(refusal) => refused(rt, refusal),
     }
 }
 
-// A quote or the spread: its name and number, or the words for its absence; or a refusal.
-pub fn quote(rt: &impl Print, name: &[u8], absent: &[u8], q: Quoted) {
-    match q {
-        Quoted::Refused(n) => number(rt, b" Refused ", n),
-        Quoted::Told(told) => match told {
-            Quote::Absent => put(rt, absent),
-            Quote::Present(price) => number(rt, name, price.0),
-        },
-    }
+// A quote or the spread, with the words in front of a price or those for its absence; or a refusal.
+pub fn quote(rt: &impl Print, (name, absent): (&str, &str), quote: Result<Option<Price>, Refusal>) {
+    let _ = match quote {
+        Ok(Some(price)) => print!(rt; "{name}{}", price.0),
+        Ok(None) => print!(rt; "{absent}"),
+        Err(refusal) => print!(rt; " Refused {}", u64::from(refusal)),
+    };
 }

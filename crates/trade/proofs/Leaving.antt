@@ -1,10 +1,10 @@
 -- The best orders of a side leave, one by one. Assumes nothing.
-use Prim.Native.Nat.{suc, zero, ℕ, ◌+◌, ◌-◌, ◌≤◌}
+use Prim.Native.Nat.{suc, zero, ℕ, ◌+◌, ◌≤◌}
 use mathlib.Core.Bool.{Bool}
 use mathlib.Core.List.{List, ◌∷◌}
-use mathlib.Core.Path.{ap, refl, sym, ◌∙◌, ◌≡◌}
+use mathlib.Core.Path.{ap, refl, subst, ◌∙◌, ◌≡◌}
 use native.Mathlib.Omega.{arith}
-use lib.ListN.{drop, length, length-drop}
+use lib.ListN.{drop, length}
 use lib.Seq.{drop-drop}
 use borrow.Author.Tests.{eq-eqb}
 use Rattle.rules.specs.Rules.{Book, Side, ask, bid, own}
@@ -36,6 +36,10 @@ first_goes rs fnd c cs l e = rw (e, eq-eqb c c refl)
 first_there : (c : ℕ) (cs l : List ℕ) → cs ≡ c ∷ l → 1 ≤ times c cs
 first_there c cs l e = omega (arith, ap (times c) e, one_self c)
 
+-- the front that is read off v, which is k as it stands
+pub seen_front : {v k : Stock} → v ≡ k → (sd : Side) {c : ℕ} → c ≡ front_of sd v.book v.bids v.asks → c ≡ front_of sd k.book k.bids k.asks
+seen_front e sd {c} f = subst (λ (x : Stock). c ≡ front_of sd x.book x.bids x.asks) e f
+
 -- the best order of side sd: its row, that it rests there, and the book once it has left
 module _ {k : Stock} (w : Tidy k) where
   pub front_row : (sd : Side) → 1 ≤ length (own sd (read_book k)) → Fronted sd k.book k.bids k.asks
@@ -59,35 +63,12 @@ module _ {k : Stock} (w : Tidy k) where
 
 -- ## One after the other
 
--- n more, after the first
-swept_on : (sd : Side) (n : ℕ) (k : Book (Unit {0})) → 1 ≤ n → swept sd (n - 1) (swept sd 1 k) ≡ swept sd n k
-swept_on bid n k h = let e : 1 + (n - 1) ≡ n = omega arith in λ j. record { bids = (drop-drop (n - 1) 1 k.bids ∙ ap (λ (m : ℕ). drop m k.bids) e) j; asks = k.asks }
-swept_on ask n k h = let e : 1 + (n - 1) ≡ n = omega arith in λ j. record { bids = k.bids; asks = (drop-drop (n - 1) 1 k.asks ∙ ap (λ (m : ℕ). drop m k.asks) e) j }
+-- one more, after the first n
+swept_next : (sd : Side) (n : ℕ) (k : Book (Unit {0})) → swept sd 1 (swept sd n k) ≡ swept sd (n + 1) k
+swept_next bid n k = λ j. record { bids = drop-drop 1 n k.bids j; asks = k.asks }
+swept_next ask n k = λ j. record { bids = k.bids; asks = drop-drop 1 n k.asks j }
 
-swept_none : (sd : Side) (k : Book (Unit {0})) → swept sd 0 k ≡ k
-swept_none bid k = refl
-swept_none ask k = refl
-
-swept_length : (sd : Side) (k : Book (Unit {0})) → length (own sd (swept sd 1 k)) ≡ length (own sd k) - 1
-swept_length bid k = length-drop 1 k.bids
-swept_length ask k = length-drop 1 k.asks
-
--- b is the book before, all are to leave, and `left` of them are still there
-pub record Sweeping (sd : Side) (b : Book (Unit {0})) (all left : ℕ) (k : Stock) : Type 0 where
-  pub tidy : Tidy k
-  pub there : left ≤ length (own sd (read_book k))
-  pub same : swept sd left (read_book k) ≡ swept sd all b
-
-pub sweep_start : {k : Stock} (sd : Side) (all : ℕ) → Tidy k → all ≤ length (own sd (read_book k)) → Sweeping sd (read_book k) all all k
-sweep_start sd all w h = record { tidy = w; there = h; same = refl }
-
-module _ {sd : Side} {all left : ℕ} {k : Stock} {b : Book (Unit {0})} (s : Sweeping sd b all left k) where
-  pub sweep_step : {k' : Stock} → 1 ≤ left → LeavesAs (swept sd 1 (read_book k)) k' → Sweeping sd b all (left - 1) k'
-  sweep_step h l = record {
-    tidy = l.desk;
-    there = rw (l.book, swept_length sd (read_book k)) (omega (arith, s.there));
-    same = rw l.book (swept_on sd left (read_book k) h ∙ s.same);
-  }
-
-  pub sweep_done : left ≡ 0 → LeavesAs (swept sd all b) k
-  sweep_done e = record { desk = s.tidy; book = sym (swept_none sd (read_book k)) ∙ (ap (λ (m : ℕ). swept sd m (read_book k)) (sym e) ∙ s.same) }
+-- b is the book before, n have left, and one more does
+pub sweep_step : (sd : Side) (k k' : Stock) (b : Book (Unit {0})) (n : ℕ) → LeavesAs (swept sd n b) k → LeavesAs (swept sd 1 (read_book k)) k'
+    → LeavesAs (swept sd (n + 1) b) k'
+sweep_step sd k k' b n s l = record { desk = l.desk; book = l.book ∙ (ap (swept sd 1) s.book ∙ swept_next sd n b) }

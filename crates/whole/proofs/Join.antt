@@ -72,12 +72,6 @@ module _ {z : Size} {b : OrderBook} {rs bd ak se : List ℕ} (w : WholeStorage z
         omega (arith, times_append (entry_for se rs x) bc ac);
   }
 
-  -- what the search finds under an id rests, and has that id
-  pub whole_found : (x : ℕ) → entry_for se rs x ≢ 0 → (1 ≤ times (entry_for se rs x) (resting_in b rs bd ak)) × (field rs 0 (entry_for se rs x) ≡ x)
-  whole_found x n =
-      let h = whole_desk.held x n in
-      (omega (arith, times_append (entry_for se rs x) bc ac), (held se rs x (omega (arith, w.lengths.search, w.lengths.some)) n).1)
-
   -- ## Down: the rules' whole book
 
   -- no bid at or above an ask
@@ -178,11 +172,6 @@ module _ {z : Size} {b : OrderBook} {rs bd ak se : List ℕ} (l : Lengths z rs b
         only = (sound se rs d.good).one;
         near = (sound se rs d.good).near;
       }
-
--- a door keeps every length
-pub lengths_kept : {z : Size} {rs bd ak se : List ℕ} (rs' bd' ak' se' : List ℕ) → length rs' ≡ length rs → length bd' ≡ length bd → length ak' ≡ length ak → length se' ≡ length se
-    → Lengths z rs bd ak se → Lengths z rs' bd' ak' se'
-lengths_kept rs' bd' ak' se' r x y s l = record { some = l.some; records = r ∙ l.records; bids = x ∙ l.bids; asks = y ∙ l.asks; search = s ∙ l.search }
 
 -- what a door leaves, of a book that the rules keep whole
 pub leaves_whole : {z : Size} {b : OrderBook} {rs bd ak se : List ℕ} {k : Book (Unit {0})} → Lengths z rs bd ak se → Leaves k rs bd ak se b.resting b.free b.bids b.asks → WholeBook z k → WholeStorage z b rs bd ak se

@@ -1,5 +1,4 @@
 pub mod Spare
-pub mod Lengths
 pub mod Levels
 pub mod Sides
 pub mod Counting

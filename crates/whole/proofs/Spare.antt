@@ -1,5 +1,5 @@
 -- The walk of the free places: what it counts is right, and what is right is counted. Assumes nothing.
-use Prim.Native.Nat.{suc, zero, ℕ, ◌-◌, ◌<◌, ◌≤◌}
+use Prim.Native.Nat.{suc, zero, ℕ, ◌+◌, ◌-◌, ◌<◌, ◌≤◌}
 use mathlib.Core.Bool.{false, true}
 use mathlib.Core.List.{List, [], ◌∷◌}
 use mathlib.Core.Logic.{◌≢◌, ⊎_elim}
@@ -79,9 +79,9 @@ module _ (rs : List ℕ) where
   idles_on k j zero e n f = absurd (n refl)
   idles_on k j (suc r) e n f = rw (e, f)
 
-  -- a turn of the walk, with k still to come
-  pub idles_turn : (k c q d : ℕ) → 0 < k → c ≢ 0 → c ≤ record_count rs → q ≡ 0 → q ≡ field rs 1 c → d ≡ field rs 3 c → idles rs k c ≡ idles rs (k - 1) d
-  idles_turn k c q d h n g z f e = rw e (idles_on k (k - 1) c (omega arith) n (is_idle c g (sym f ∙ z)))
+  -- a turn of the walk, with i of k places passed
+  pub idles_turn : (k i c q d : ℕ) → i < k → c ≢ 0 → c ≤ record_count rs → q ≡ 0 → q ≡ field rs 1 c → d ≡ field rs 3 c → idles rs (k - i) c ≡ idles rs (k - (i + 1)) d
+  idles_turn k i c q d h n g z f e = rw e (idles_on (k - i) (k - (i + 1)) c (omega arith) n (is_idle c g (sym f ∙ z)))
 
   idles_right : (k c : ℕ) → idles rs k c ≡ true → Spared rs c (chain k rs c) × (length (chain k rs c) ≡ k)
   unfolding idles

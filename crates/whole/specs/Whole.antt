@@ -1,8 +1,10 @@
 -- A whole book, as document 01 has it ('A whole book'), over the stored numbers: each sentence is a field, in its words and its order.
 -- z is the size of the hall (orders, prices a side); the other short names are those of ledger's Stock.antt. The definitions are those that the doors
 -- use: a record's `field`, the levels and the free places as storage says (`levels_in`, `free_in`), a side's `Ladder`. Assumes nothing.
-use Rattle.std.specs.Prelude.{ℕ, ◌*◌, ◌+◌, ◌-◌, ◌<◌, ◌≤◌, List, ◌++◌, ◌≢◌, ◌≡◌, length}
+use Rattle.std.specs.Prelude.{ℕ, ◌*◌, ◌+◌, ◌-◌, ◌<◌, ◌≤◌, List, ◌++◌, ◌≢◌, ◌≡◌, length, Result, Ok, Err}
 use Rattle.rules.specs.Rules.{Size}
+use Rattle.models.specs.declared.Refusal.{Refusal}
+use Rattle.models.specs.declared.Refusal.TheVariants.{NotWhole}
 use Rattle.records.specs.Rows.{field}
 use Rattle.search.specs.Seek.{at, dist, home}
 use Rattle.arena.specs.Free.{Chain}
@@ -74,3 +76,8 @@ pub record WholeStorage (z : Size) (b : OrderBook) (rs bd ak se : List ℕ) : Ty
 -- the same of a stock
 abbrev pub WholeStock : Size → Stock → Type 0
 WholeStock z k = WholeStorage z k.book k.records k.bids k.asks k.search
+
+-- that a stored book is known to be whole; else that it isn't, with the refusal
+abbrev pub Known : Size → Stock → Result (Unit {0}) Refusal → Type 0
+Known z k (Ok _) = WholeStock z k
+Known z k (Err e) = (e ≡ NotWhole) × (WholeStock z k → ⊥)

@@ -6,15 +6,16 @@
 
 ghost use Rattle.std.specs.Prelude.{◌≡◌, ◌*◌, ◌≤◌};
 ghost use Rattle.search.specs.Seek.{Decides};
-ghost use Rattle.ledger.specs.Stock.{stock};
-ghost use Rattle.whole.specs.Whole.{WholeStock, Lengths, Limits, size_of};
+ghost use Rattle.ledger.specs.Stock.{stock_in};
+ghost use Rattle.whole.specs.Whole.{WholeStock, Known, Lengths, Limits, size_of};
 ghost use Rattle.whole.specs.Spare.{idles};
 
 use arena::ROW;
-use ledger::OrderBook;
+use ledger::{BookView, OrderBook};
+use models::Refusal;
 use ranks::{is_parted, side_total};
 use records::{NEXT, QUANTITY, WIDTH, load_before};
-use search::mask_of;
+use search::Ring;
 use table::taken;
 
 // The size of a hall: how many orders may rest, and how many prices a side may have.
@@ -24,9 +25,6 @@ pub struct Size {
     pub prices: usize,
 }
 
-// Document 01's number of the refusal of a stored book that isn't whole.
-pub const NOT_WHOLE: u64 = 1;
-
 // How many places of the search an order has.
 pub const PLACES_AN_ORDER: usize = 2;
 
@@ -35,48 +33,26 @@ fn fills(len: usize, rows: usize, width: usize) -> bool
     requires { 1 ≤ width }
     ensures { Decides result (len ≡ rows * width) }
 {
-    if len / width != rows {
-        return false;
-    }
-    if len % width == 0 {
-        return true;
-    }
-    false
+    rows.checked_mul(width) == Some(len)
 }
 
 // Whether storage has the right lengths.
-pub fn is_sized(size: Size, records: &[u64], bids: &[u64], asks: &[u64], search: &[u64]) -> bool
-    ensures { Decides result (Lengths (size_of size) records.now bids.now asks.now search.now) }
+pub fn is_sized(size: Size, view: BookView<'_>) -> bool
+    ensures { Decides result (Lengths (size_of size)
+        view.entry.records.now view.entry.bids.now view.entry.asks.now view.entry.search.now) }
 {
-    if size.orders == 0 {
-        return false;
-    }
-    if !fills(records.len(), size.orders, WIDTH) {
-        return false;
-    }
-    if !fills(bids.len(), size.prices, ROW) {
-        return false;
-    }
-    if !fills(asks.len(), size.prices, ROW) {
-        return false;
-    }
-    fills(search.len(), size.orders, PLACES_AN_ORDER)
+    0 < size.orders
+        && fills(view.records.len(), size.orders, WIDTH)
+        && fills(view.bids.len(), size.prices, ROW)
+        && fills(view.asks.len(), size.prices, ROW)
+        && fills(view.search.len(), size.orders, PLACES_AN_ORDER)
 }
 
 // Whether counts are within limits.
 fn is_limited(size: Size, book: OrderBook) -> bool
     ensures { Decides result (Limits (size_of size) book) }
 {
-    if size.orders < book.resting {
-        return false;
-    }
-    if size.prices < book.bids {
-        return false;
-    }
-    if size.prices < book.asks {
-        return false;
-    }
-    true
+    book.resting <= size.orders && book.bids <= size.prices && book.asks <= size.prices
 }
 
 // Whether the chain from `free` has `count` records, each with nothing. Places that were never used follow each other downwards: there the next one is
@@ -90,16 +66,11 @@ fn is_spare(records: &[u64], free: u64, count: usize) -> bool
     }
     let mut c = free;
     let mut end = free as usize * WIDTH;
-    let mut k = count;
-    while k > 0 {
-        if c == 0 {
-            return false;
-        }
-        if load_before(records, QUANTITY, end) != 0 {
+    for _ in 0..count {
+        if c == 0 || load_before(records, QUANTITY, end) != 0 {
             return false;
         }
         let next = load_before(records, NEXT, end);
-        k -= 1;
         c -= 1;
         end -= WIDTH;
         if next != c {
@@ -114,37 +85,41 @@ fn is_spare(records: &[u64], free: u64, count: usize) -> bool
 }
 
 // Whether a stored book is whole, on any slices.
-pub fn is_whole(
-    size: Size,
-    book: OrderBook,
-    records: &[u64],
-    bids: &[u64],
-    asks: &[u64],
-    search: &[u64],
-) -> bool
-    ensures { Decides result (WholeStock (size_of size) (stock book records.now bids.now asks.now search.now)) }
+pub fn is_whole(size: Size, view: BookView<'_>) -> bool
+    ensures { Decides result (WholeStock (size_of size) (stock_in view.entry)) }
 {
-    if !is_sized(size, records, bids, asks, search) {
-        return false;
-    }
-    if !is_limited(size, book) {
+    let BookView {
+        book,
+        records,
+        bids,
+        asks,
+        search,
+    } = view;
+    if !is_sized(size, view) || !is_limited(size, book) {
         return false;
     }
     let resting = book.resting;
-    let mask = mask_of(search.len());
-    let b = side_total(records, search, mask, bids, book.bids, resting);
-    if b.orders > resting {
+    let ring = Ring::new(search.len());
+    let Some(b) = side_total(records, search, ring, bids, book.bids, resting) else {
         return false;
-    }
-    let a = side_total(records, search, mask, asks, book.asks, resting - b.orders);
-    if a.orders != resting - b.orders {
+    };
+    let left = resting - b.orders;
+    let Some(a) = side_total(records, search, ring, asks, book.asks, left) else {
         return false;
+    };
+    a.orders == left
+        && is_parted(bids, asks, book.bids, book.asks)
+        && is_spare(records, book.free, size.orders - resting)
+        && taken(search) == b.found + a.found
+}
+
+// That a stored book is whole; else the refusal of one that isn't.
+pub fn known(size: Size, view: BookView<'_>) -> Result<(), Refusal>
+    ensures { Known (size_of size) (stock_in view.entry) result }
+{
+    if is_whole(size, view) {
+        Ok(())
+    } else {
+        Err(Refusal::NotWhole)
     }
-    if !is_parted(bids, asks, book.bids, book.asks) {
-        return false;
-    }
-    if !is_spare(records, book.free, size.orders - resting) {
-        return false;
-    }
-    taken(search) == b.found + a.found
 }

@@ -3,79 +3,65 @@
 
 ghost use Rattle.std.specs.Prelude.{◌≡◌, ◌+◌, ◌≤◌, length};
 ghost use Rattle.overlay.specs.Over.{Put};
-ghost use Rattle.tape.specs.Orders.{length_of, number_of_side, tag_for, wish_of, value_of, written_at, written_to};
+ghost use Rattle.fields.specs.Output.{Lent};
+ghost use Rattle.tape.specs.Orders.{length_of, tag_for, wish_of, value_of, written_at, written_to};
 
-use fields::{HEADER, put_byte, put_header, put_number};
-use models::{OrderType, Side};
-use tape::{ASK, CANCEL, LIMIT, MARKET, NUMBER, SHORT_ROOM, Written, length_of};
+use fields::{HEADER, Header, Output};
+use models::{Id, OrderType, Quantity, Refusal, Side};
+use tape::{Kind, NUMBER};
 
-fn tag_of(order: OrderType) -> u8
-    ensures { result ≡ tag_for order }
+// A side has one byte.
+const SIDE: usize = 1;
+
+// Id, side and quantity.
+fn put_wish(output: &mut Output<'_>, id: Id, side: Side, qty: Quantity)
+    requires { output.old.at + 17 ≤ length output.old.bytes.now }
+    ensures lent { Lent output.old output.new }
+    ensures put { Put output.old.bytes.now output.old.at (wish_of id.0 side qty.0) output.new.bytes.now output.new.at }
+    ensures place { output.new.at ≡ output.old.at + 17 }
+{
+    output.put_number(NUMBER, id.0);
+    output.put_number(SIDE, u64::from(side));
+    output.put_number(NUMBER, qty.0);
+}
+
+// An order's value.
+#[tactic(auto, unfolding(tape::specs::Orders::length_of))]
+fn put_value(output: &mut Output<'_>, order: OrderType)
+    requires { output.old.at + length_of (tag_for order) ≤ length output.old.bytes.now }
+    ensures lent { Lent output.old output.new }
+    ensures put { Put output.old.bytes.now output.old.at (value_of order) output.new.bytes.now output.new.at }
 {
     match order {
-        OrderType::Market { id, side, qty } => MARKET,
-        OrderType::Limit {
-            id,
-            side,
-            qty,
-            price,
-        } => LIMIT,
-        OrderType::Cancel { id } => CANCEL,
-    }
-}
-
-fn side_number(side: Side) -> u8
-    ensures { result ≡ number_of_side side }
-{
-    match side {
-        Side::Bid => 0,
-        Side::Ask => ASK,
-    }
-}
-
-// Id, side and quantity; the place behind them.
-fn put_wish(out: &mut [u8], at: usize, id: u64, side: Side, qty: u64) -> usize
-    requires { at + 17 ≤ length out.old }
-    ensures put { Put out.old at (wish_of id side qty) out.new result }
-    ensures value { result ≡ at + 17 }
-{
-    let a = put_number(out, at, NUMBER, id);
-    let b = put_byte(out, a, side_number(side));
-    put_number(out, b, NUMBER, qty)
-}
-
-// The order's value; the place behind it.
-fn put_value(out: &mut [u8], at: usize, order: OrderType) -> usize
-    requires { at + length_of (tag_for order) ≤ length out.old }
-    ensures { Put out.old at (value_of order) out.new result }
-{
-    match order {
-        OrderType::Market { id, side, qty } => put_wish(out, at, id.0, side, qty.0),
+        OrderType::Market { id, side, qty } => put_wish(output, id, side, qty),
         OrderType::Limit {
             id,
             side,
             qty,
             price,
         } => {
-            let behind = put_wish(out, at, id.0, side, qty.0);
-            put_number(out, behind, NUMBER, price.0)
+            put_wish(output, id, side, qty);
+            output.put_number(NUMBER, price.0);
         }
-        OrderType::Cancel { id } => put_number(out, at, NUMBER, id.0),
+        OrderType::Cancel { id } => output.put_number(NUMBER, id.0),
     }
 }
 
-// An order at a place of a tape: the place behind it, or 19 and no change where room is short.
-pub fn write_order(out: &mut [u8], at: usize, order: OrderType) -> Written
+// An order at a place of a tape: the place behind it; where room is short it is refused, and nothing changes. The tape and the place come apart and not as an
+// Output, as felavuti_write_order is lent them: the place may be any number.
+pub fn write_order(out: &mut [u8], at: usize, order: OrderType) -> Result<usize, Refusal>
     ensures { (result ≡ written_at out.old at order) × (out.new ≡ written_to out.old at order) }
 {
-    let tag = tag_of(order);
-    let size = length_of(tag);
-    if out.len() < at {
-        return Written::Refused(SHORT_ROOM);
+    let kind = Kind::from(order);
+    let size = kind.length();
+    if out.len() < at || out.len() - at < HEADER + size {
+        return Err(Refusal::ShortRoom);
     }
-    if out.len() - at < HEADER + size {
-        return Written::Refused(SHORT_ROOM);
-    }
-    let behind = put_header(out, at, tag, size as u64);
-    Written::Next(put_value(out, behind, order))
+    let mut output = Output { bytes: out, at };
+    output.put_header(Header {
+        tag: u64::from(kind),
+        length: size as u64,
+    });
+    put_value(&mut output, order);
+    Ok(output.at)
 }

@@ -1,25 +1,17 @@
 -- `ffi::felavuti_fresh` meets its contract: a fresh book of orderbook with its numbers written. Assumes nothing.
+use Rattle.std.proofs.Common.{rules, refl}
+use Rattle.numbers.specs.Reports.{made, refused}
+use Rattle.ffi.proofs.Carrying.{opened}
 use Rattle.ffi.proofs.felavuti_fresh.Goals as goal
 
-pub fresh-told-requires : goal.fresh-told-requires
-fresh-told-requires c = tt
+pub returns-in-Ok : goal.returns-in-Ok
+returns-in-Ok c =
+    let l = c.fresh.ensures.lent in
+    opened c.book_of.ensures (search (rules, l.records)) (search (rules, l.bids)) (search (rules, l.asks)) (search (rules, l.search))
+    c.fresh.ensures.makes (made c.in-Ok.statistics c.in-Ok.is refl c.written.ensures)
 
-pub opened-o-requires : goal.opened-o-requires
-opened-o-requires c = tt
-
-pub shape_of-records : goal.shape_of-records
-shape_of-records c = c.fresh-told.auto.records
-
-pub shape_of-bids : goal.shape_of-bids
-shape_of-bids c = c.fresh-told.auto.bids
-
-pub shape_of-asks : goal.shape_of-asks
-shape_of-asks c = c.fresh-told.auto.asks
-
-pub shape_of-search : goal.shape_of-search
-shape_of-search c = c.fresh-told.auto.search
-
-pub returns : goal.returns
-returns c =
-    let u = c in
-    record { answer = _; makes = u.fresh-told.ensures; reported = c.opened-o.ensures }
+pub returns-in-Err : goal.returns-in-Err
+returns-in-Err c =
+    let l = c.fresh.ensures.lent in
+    opened c.book_of.ensures (search (rules, l.records)) (search (rules, l.bids)) (search (rules, l.asks)) (search (rules, l.search))
+    c.fresh.ensures.makes (refused c.in-Err.refusal c.in-Err.is c.from.ensures refl)

@@ -2,14 +2,5 @@
 use Rattle.ffi.proofs.Carrying.{asked}
 use Rattle.ffi.proofs.felavuti_min_ask.Goals as goal
 
-pub book_of-book-requires : goal.book_of-book-requires
-book_of-book-requires c = tt
-
-pub min_ask-asked-requires : goal.min_ask-asked-requires
-min_ask-asked-requires c = tt
-
-pub quoted-o-requires : goal.quoted-o-requires
-quoted-o-requires c = tt
-
 pub returns : goal.returns
-returns c = asked c.book_of-book.ensures c.min_ask-asked.ensures c.quoted-o.ensures
+returns c = asked c.viewed-view.ensures c.min_ask.ensures c.told.ensures

@@ -6,7 +6,7 @@ use Rattle.ranks.proofs.queue_total.Given as goal
 
 abbrev pub invariant-loop-c : goal.invariant-loop-c
 invariant-loop-c l =
-    (l.n ≤ l.most) × (walked l.records l.price l.tail l.most 0 l.head 0 ≡ walked l.records l.price l.tail (l.most - l.n) l.p l.c l.n) × Seen l.search l.records l.head l.most l.n l.found l.c
+    (l.orders ≤ l.most) × (walked l.records l.price l.tail l.most 0 l.head 0 ≡ walked l.records l.price l.tail (l.most - l.orders) l.p l.c l.orders) × Seen l.search l.records l.head l.most l.orders l.found l.c
 
 abbrev pub decreases-loop-c : goal.decreases-loop-c
-decreases-loop-c l = l.most - l.n
+decreases-loop-c l = l.most - l.orders

@@ -1,38 +1,32 @@
 -- `reader::order_at` meets its contract. Assumes nothing.
-use Rattle.tape.specs.Orders.{side_by}
-use Rattle.tape.proofs.Forms.{same_market, same_limit, same_cancel}
-use mathlib.Core.Path.{◌≡◌, sym, ap, ◌∙◌}
-use native.Mathlib.Omega.{arith}
-use lib.ListN.{drop}
-use lib.Seq.{drop-drop, get_or-drop}
-use Rattle.fields.specs.Bytes.{number}
-use Rattle.tape.proofs.Tags.{value_least, value_wide, the_limit, length_limit, order_market, order_limit, order_cancel}
-use Rattle.tape.specs.Orders.{length_of}
+use Prim.Native.Nat.{ℕ, ◌+◌}
+use mathlib.Core.Path.{◌≡◌, refl, ◌∙◌}
+use mathlib.Core.Bool.{false}
+use mathlib.Core.List.{List}
+use lib.Dec.{ltb}
+use lib.ListN.{get_or, drop}
+use lib.Seq.{get_or-drop, drop-drop}
+use Rattle.models.specs.declared.Side.{Side}
+use Rattle.models.specs.declared.Side.TheVariants.{Bid, Ask}
+use Rattle.models.specs.Readings.{side_number}
+use Rattle.tape.specs.Orders.{order_in, side_in, side_byte}
 use Rattle.reader.proofs.order_at.Goals as goal
 
-pub number_at-requires : goal.number_at-requires
-number_at-requires c = omega (arith, value_least c.args.tag c.requires.0)
+-- a side's byte says the side, and is none above 1
+said : (l : List ℕ) (at : ℕ) (s : Side) → get_or l (at + 8) 0 ≡ side_number s → (side_in (drop at l) ≡ s) × (ltb 1 (side_byte (drop at l)) ≡ false)
+said l at Bid e = let b : get_or (drop at l) 8 0 ≡ 0 = get_or-drop at l 8 0 ∙ e in rw b (refl, refl)
+said l at Ask e = let b : get_or (drop at l) 8 0 ≡ 1 = get_or-drop at l 8 0 ∙ e in rw b (refl, refl)
 
-pub returns-then-tag-eq-CANCEL : goal.returns-then-tag-eq-CANCEL
-returns-then-tag-eq-CANCEL c = same_cancel c.number_at.ensures ∙ sym (order_cancel c.args.tag (drop c.args.at c.args.tape.now) c.if-tag-eq-CANCEL.true)
+pub returns-in_ok-side_at-in-Market-clause-order : goal.returns-in_ok-side_at-in-Market-clause-order
+unfolding order_in
+returns-in_ok-side_at-in-Market-clause-order c =
+    let a = c.args in
+    let s = said a.tape.now a.at c.in_ok-side_at-in-Market.field-0 c.in_ok-side_at-in-Market.ensures in
+    rw (c.in-Market.is, s.0, s.1, c.number_at.ensures, c.number_at-in-Market.ensures) (simp drop-drop, refl)
 
-pub overflow_add-at : goal.overflow_add-at
-overflow_add-at c = omega (arith, value_wide c.args.tag c.requires.0 c.if-tag-eq-CANCEL.false)
-
-pub bounds-tape-at : goal.bounds-tape-at
-bounds-tape-at c = omega (arith, value_wide c.args.tag c.requires.0 c.if-tag-eq-CANCEL.false)
-
-pub overflow_add-at-2 : goal.overflow_add-at-2
-overflow_add-at-2 c = omega (arith, value_wide c.args.tag c.requires.0 c.if-tag-eq-CANCEL.false)
-
-pub number_at-requires-2 : goal.number_at-requires-2
-number_at-requires-2 c = omega (arith, value_wide c.args.tag c.requires.0 c.if-tag-eq-CANCEL.false)
-
-pub returns-then-tag-eq-MARKET : goal.returns-then-tag-eq-MARKET
-returns-then-tag-eq-MARKET c = let l = c.args.tape.now in let at = c.args.at in same_market c.number_at.ensures (c.side_in-side.ensures ∙ ap side_by (sym (get_or-drop at l 8 0))) (c.number_at-2.ensures ∙ ap (number 8) (sym (drop-drop 9 at l))) ∙ sym (order_market c.args.tag (drop at l) c.if-tag-eq-MARKET.true)
-
-pub number_at-requires-3 : goal.number_at-requires-3
-number_at-requires-3 c = let e : c.args.tag ≡ 2 = the_limit c.args.tag c.requires.0 c.if-tag-eq-MARKET.false c.if-tag-eq-CANCEL.false in omega (arith, length_limit, ap length_of e)
-
-pub returns : goal.returns
-returns c = let l = c.args.tape.now in let at = c.args.at in same_limit c.number_at.ensures (c.side_in-side.ensures ∙ ap side_by (sym (get_or-drop at l 8 0))) (c.number_at-2.ensures ∙ ap (number 8) (sym (drop-drop 9 at l))) (c.number_at-3.ensures ∙ ap (number 8) (sym (drop-drop 17 at l))) ∙ sym (order_limit c.args.tag (drop at l) (the_limit c.args.tag c.requires.0 c.if-tag-eq-MARKET.false c.if-tag-eq-CANCEL.false))
+pub returns-in_ok-side_at-in-Limit-clause-order : goal.returns-in_ok-side_at-in-Limit-clause-order
+unfolding order_in
+returns-in_ok-side_at-in-Limit-clause-order c =
+    let a = c.args in
+    let s = said a.tape.now a.at c.in_ok-side_at-in-Limit.field-0 c.in_ok-side_at-in-Limit.ensures in
+    rw (c.in-Limit.is, s.0, s.1, c.number_at.ensures, c.number_at-in-Limit.ensures, c.number_at-in-Limit-2.ensures) (simp drop-drop, refl)

@@ -1,43 +1,24 @@
 -- `reel::part` meets its contract. Assumes nothing.
-use Rattle.reel.proofs.Along.{begun, asks, onward, lessens, places, parted}
+use borrow.Author.Rules.{rules}
 use mathlib.Core.Path.{refl, ◌∙◌}
+use Rattle.ledger.proofs.Lending.{relent_on}
+use Rattle.reel.proofs.Along.{begun, asks, onward, lessens, parted}
 use Rattle.reel.proofs.part.Goals as goal
 
-pub loop-more-init : goal.loop-more-init
-loop-more-init c = (refl, refl, refl, refl, refl, begun c.requires.0 c.requires.1 c.requires.3 c.goes_on-more.ensures)
+pub loop-size-init : goal.loop-size-init
+loop-size-init c = record { relent = search rules; lent = refl; along = begun c.requires.0 c.requires.1 c.requires.3 }
 
 pub step-turn-requires : goal.step-turn-requires
-step-turn-requires c = asks c.loop-more-test.true c.requires.2 c.requires.4 c.loop-more.invariant.5
+step-turn-requires c = asks c.loop-size.invariant.along c.loop-size-test.true c.goes_on.ensures c.requires.2 c.requires.4
 
-pub overflow_sub-tape-in-loop-more : goal.overflow_sub-tape-in-loop-more
-overflow_sub-tape-in-loop-more c = (places c.loop-more.invariant.5 c.step-turn.ensures).0
+pub loop-size-smaller : goal.loop-size-smaller
+loop-size-smaller c = lessens c.loop-size.invariant.along c.loop-size-test.true c.goes_on.ensures c.step-turn.ensures.step
 
-pub overflow_sub-out-in-loop-more : goal.overflow_sub-out-in-loop-more
-overflow_sub-out-in-loop-more c = (places c.loop-more.invariant.5 c.step-turn.ensures).1
+pub loop-size-preserved : goal.loop-size-preserved
+loop-size-preserved c =
+    let v = c.loop-size.invariant in
+    let t = c.step-turn.ensures in
+    record { relent = relent_on v.relent t.relent; lent = t.lent ∙ v.lent; along = onward v.along c.loop-size-test.true c.goes_on.ensures t.step }
 
-pub loop-more-smaller : goal.loop-more-smaller
-loop-more-smaller c = lessens c.loop-more-test.true c.loop-more.invariant.5 c.step-turn.ensures c.goes_on-more-in-loop-more.ensures
-
-pub loop-more-preserved : goal.loop-more-preserved
-loop-more-preserved c = let k = c.step-turn.auto in let i = c.loop-more.invariant in (k.records ∙ i.0, k.bids ∙ i.1, k.asks ∙ i.2, k.search ∙ i.3, k.fills ∙ i.4, onward c.loop-more-test.true i.5 c.step-turn.ensures c.goes_on-more-in-loop-more.ensures)
-
-pub shape_of-records : goal.shape_of-records
-shape_of-records c = c.loop-more.invariant.0
-
-pub shape_of-bids : goal.shape_of-bids
-shape_of-bids c = c.loop-more.invariant.1
-
-pub shape_of-asks : goal.shape_of-asks
-shape_of-asks c = c.loop-more.invariant.2
-
-pub shape_of-search : goal.shape_of-search
-shape_of-search c = c.loop-more.invariant.3
-
-pub shape_of-fills : goal.shape_of-fills
-shape_of-fills c = c.loop-more.invariant.4
-
-pub shape_of-out : goal.shape_of-out
-shape_of-out c = c.loop-more.invariant.5.put.long
-
-pub returns : goal.returns
-returns c = parted c.loop-more-test.false c.loop-more.invariant.5
+pub returns-clause-part : goal.returns-clause-part
+returns-clause-part c = parted c.loop-size.invariant.along c.loop-size-test.false c.goes_on.ensures

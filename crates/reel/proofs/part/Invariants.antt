@@ -1,17 +1,19 @@
-use Rattle.reel.proofs.Along.{Along}
-use mathlib.Core.Path.{◌≡◌}
 use Prim.Native.Nat.{◌+◌, ◌-◌}
 use lib.ListN.{length}
-use Rattle.rules.specs.Whole.{one}
-use Rattle.ledger.specs.Stock.{stock}
+use Rattle.fields.specs.Output.{Lent}
+use Rattle.ledger.specs.Stock.{stock_of, Relent}
 use Rattle.whole.specs.Whole.{size_of}
 use Rattle.serve.specs.Serve.{keeping}
+use Rattle.reel.proofs.Along.{Along, going}
 use Rattle.reel.proofs.part.Given as goal
 
-abbrev pub invariant-loop-more : goal.invariant-loop-more
-invariant-loop-more l =
-    (length l.records ≡ length l.initial.records) × (length l.bids ≡ length l.initial.bids) × (length l.asks ≡ length l.initial.asks) × (length l.search ≡ length l.initial.search) × (length l.fills ≡ length l.initial.fills)
-    × Along (size_of l.size) l.tape l.base l.last l.at (keeping (stock l.initial.b l.initial.records l.initial.bids l.initial.asks l.initial.search) l.initial.s l.initial.fills) l.initial.out l.to l.room l.state l.next l.behind (keeping (stock l.b l.records l.bids l.asks l.search) l.s l.fills) l.out l.more
+abbrev pub invariant-loop-size : goal.invariant-loop-size
+invariant-loop-size l = record {
+  relent : Relent l.initial.book l.book;
+  lent : Lent l.initial.output l.output;
+  along : Along (size_of l.size) l.tape l.base l.last l.at (keeping (stock_of l.initial.book) l.initial.statistics l.initial.fills)
+      l.initial.output.bytes.now l.initial.output.at l.turn.state l.turn.next l.output.at (keeping (stock_of l.book) l.statistics l.fills) l.output.bytes.now;
+}
 
-abbrev pub decreases-loop-more : goal.decreases-loop-more
-decreases-loop-more l = length l.tape - l.next + one l.more
+abbrev pub decreases-loop-size : goal.decreases-loop-size
+decreases-loop-size l = length l.tape - l.turn.next + going l.turn.state

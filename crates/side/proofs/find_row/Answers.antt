@@ -1,21 +1,19 @@
 -- `side::find_row` meets its contract. Assumes nothing.
-use mathlib.Core.Path.{◌≡◌}
-use native.Mathlib.Omega.{arith}
-use Rattle.side.proofs.Shift.{bracket_start}
+use Prim.Native.Nat.{ℕ}
+use mathlib.Core.List.{List}
+use lib.Dec.{ltb}
+use lib.ListN.{get_or}
 use borrow.Author.Rules.{rules}
+use Rattle.std.proofs.lemmas.List.Sorted.{IsPartitionPoint-from_clause}
+use Rattle.side.proofs.Shift.{bracket_at, rows_parted}
 use Rattle.side.proofs.find_row.Goals as goal
 
-pub loop-s-init : goal.loop-s-init
-loop-s-init c = bracket_start c.args.levels.now c.args.n c.args.price.0
-
-pub halve-s-requires : goal.halve-s-requires
-halve-s-requires c = (c.requires, c.loop-s.invariant, search rules)
-
-pub loop-s-smaller : goal.loop-s-smaller
-loop-s-smaller c = c.halve-s.ensures.1
-
-pub loop-s-preserved : goal.loop-s-preserved
-loop-s-preserved c = c.halve-s.ensures.0
-
 pub returns : goal.returns
-returns c = let l = c.loop-s in let e : l.s.hi ≡ l.s.lo = omega arith in rw e at l.invariant
+returns c =
+    let lv = c.args.levels.now in
+    let p = c.args.price.0 in
+    let rows = c.as_chunks.result.0.now in
+    let e = c.as_chunks.ensures in
+    let f = c.partition_point.ensures in
+    bracket_at lv c.args.n p rows c.requires e.front e.front_len _ f.bound
+    (IsPartitionPoint-from_clause (λ (y : List ℕ). ltb (get_or y 0 0) p) rows _ f.partitioned (rows_parted lv c.args.n p rows c.requires e.front e.front_len) (λ a r f' k. search rules))

@@ -1,47 +1,21 @@
--- `slips::write_slip` meets its contract: each check is the definition's, and the writer's answer is its last. Assumes nothing.
-use mathlib.Core.Path.{sym, ◌∙◌}
-use Rattle.slips.proofs.Writing.{kindless, sideless, short, done}
+-- `slips::write_slip` meets its contract: the slip's refusals are the definition's, and the writer's answer is its last. Assumes nothing.
+use mathlib.Core.Path.{◌≡◌}
+use Rattle.std.specs.Prelude.{Err}
+use Rattle.reader.proofs.Places.{passed_on}
+use Rattle.slips.proofs.Writing.{short, done}
 use Rattle.slips.proofs.write_slip.Goals as goal
 
-pub returns-then-has_no_kind : goal.returns-then-has_no_kind
-returns-then-has_no_kind c =
+pub returns-in_err-next : goal.returns-in_err-next
+returns-in_err-next c =
     let a = c.args in
-    kindless a.tape.now a.at a.slip (sym c.has_no_kind.ensures ∙ c.if-has_no_kind.true)
+    let k = c.in_ok-order.ensures.order in
+    let w = c.in_err-next.ensures in
+    let r : c.from_residual-in_err-next.result ≡ Err c.in_err-next.field-0.0 = passed_on _ _ c.from_residual-in_err-next.ensures.1 in
+    rw r (short a.tape.now a.at a.slip k.1 k.2 c.in_err-next.field-0.0 c.write_order.new.out (rw (← k.0) w.0) (rw (← k.0) w.1))
 
-pub returns-then-has_no_side : goal.returns-then-has_no_side
-returns-then-has_no_side c =
+pub returns : goal.returns
+returns c =
     let a = c.args in
-    sideless
-    a.tape.now
-    a.at
-    a.slip
-    (sym c.has_no_kind.ensures ∙ c.if-has_no_kind.false)
-    (sym c.has_no_side.ensures ∙ c.if-has_no_side.true)
-
-pub returns-in-Refused : goal.returns-in-Refused
-returns-in-Refused c =
-    let a = c.args in
-    short
-    a.tape.now
-    a.at
-    a.slip
-    (sym c.has_no_kind.ensures ∙ c.if-has_no_kind.false)
-    (sym c.has_no_side.ensures ∙ c.if-has_no_side.false)
-    _
-    _
-    (rw (← c.order_of-order.ensures, ← c.write_order.ensures.0, c.in-Refused.is))
-    (rw (← c.order_of-order.ensures) c.write_order.ensures.1)
-
-pub returns-in-Next : goal.returns-in-Next
-returns-in-Next c =
-    let a = c.args in
-    done
-    a.tape.now
-    a.at
-    a.slip
-    (sym c.has_no_kind.ensures ∙ c.if-has_no_kind.false)
-    (sym c.has_no_side.ensures ∙ c.if-has_no_side.false)
-    _
-    _
-    (rw (← c.order_of-order.ensures, ← c.write_order.ensures.0, c.in-Next.is))
-    (rw (← c.order_of-order.ensures) c.write_order.ensures.1)
+    let k = c.in_ok-order.ensures.order in
+    let w = c.in_ok-next.ensures in
+    done a.tape.now a.at a.slip k.1 k.2 c.in_ok-next.next c.write_order.new.out (rw (← k.0) w.0) (rw (← k.0) w.1)

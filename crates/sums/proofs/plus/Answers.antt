@@ -1,22 +1,16 @@
--- `models::sums::plus` meets its contract: the tests are the definition's. Assumes nothing.
-use mathlib.Core.Path.{sym}
-use native.Mathlib.Omega.{arith}
+-- `sums::plus` meets its contract: the cases are the definition's. Assumes nothing.
 use Rattle.sums.specs.Sums.{plus_of}
-use Rattle.sums.proofs.Capped.{capped_small, capped_large}
+use Rattle.sums.proofs.Capped.{checked_is}
 use Rattle.sums.proofs.plus.Goals as goal
 
-pub returns-then-a : goal.returns-then-a
+pub returns-in_err-a : goal.returns-in_err-a
 unfolding plus_of
-returns-then-a c = rw c.if-a.true
+returns-in_err-a c = rw (c.in_err-a.was) c.from_residual.ensures
 
-pub returns-then-b : goal.returns-then-b
+pub returns-in_err-b : goal.returns-in_err-b
 unfolding plus_of
-returns-then-b c = rw (c.if-a.false, c.if-b.true)
-
-pub returns-then-x-y : goal.returns-then-x-y
-unfolding plus_of
-returns-then-x-y c = rw (c.if-a.false, c.if-b.false) (sym (capped_large _ (omega arith)))
+returns-in_err-b c = rw (c.in_ok-a.was, c.in_err-b.was) c.from_residual-in_err-b.ensures
 
 pub returns : goal.returns
 unfolding plus_of
-returns c = rw (c.if-a.false, c.if-b.false) (sym (capped_small _ (omega arith)))
+returns c = rw (c.in_ok-a.was, c.in_ok-b.was) (checked_is _ _ c.checked_add.ensures)

@@ -1,10 +1,9 @@
-use Prim.Native.Nat.{◌-◌}
-use lib.ListN.{length}
-use Rattle.table.proofs.Counts.{Counted}
+use Prim.Native.Nat.{ℕ, ◌+◌}
+use mathlib.Core.Path.{◌≡◌}
+use lib.Dec.{eqb}
+use lib.ListN.{length, take}
+use Rattle.std.specs.List.{count_by}
 use Rattle.table.proofs.taken.Given as goal
 
-abbrev pub invariant-loop-p : goal.invariant-loop-p
-invariant-loop-p l = Counted l.search l.n l.p
-
-abbrev pub decreases-loop-p : goal.decreases-loop-p
-decreases-loop-p l = length l.search - l.p
+abbrev pub invariant-loop-e : goal.invariant-loop-e
+invariant-loop-e l = l.n + count_by (λ (x : ℕ). eqb x 0) (take l.e-index l.search) ≡ length l.search

@@ -1,9 +1,15 @@
 -- `punch::output::put_order` meets its contract: the writer is never refused, since there is room for any order. Assumes nothing.
-use Rattle.punch.proofs.Punched.{was_put, is_never_refused}
+use Prim.Native.Nat.{ℕ}
+use mathlib.Core.Path.{ap, ◌∙◌}
+use Rattle.std.specs.Result.{result_unwrap_or}
+use Rattle.std.specs.Prelude.{Result}
+use Rattle.models.specs.declared.Refusal.{Refusal}
+use Rattle.punch.proofs.Punched.{is_next, was_put}
 use Rattle.punch.proofs.output.put_order.Goals as goal
 
-pub returns-in-Next : goal.returns-in-Next
-returns-in-Next c = was_put _ _ _ c.requires _ _ c.in-Next.ensures.0 c.in-Next.ensures.1
-
-pub returns-in-Refused : goal.returns-in-Refused
-returns-in-Refused c = absurd (is_never_refused c.args.tape.now c.args.at c.args.order c.requires _ c.in-Refused.ensures.0)
+pub returns : goal.returns
+returns c =
+    let a = c.args in
+    let w = c.write_order.ensures in
+    was_put a.tape.now a.at a.order c.requires c.write_order.new.out c.unwrap_or.result
+    (c.unwrap_or.ensures ∙ ap (λ (r : Result ℕ Refusal). result_unwrap_or r a.at) (w.0 ∙ is_next a.tape.now a.at a.order c.requires)) w.1

@@ -1,5 +1,0 @@
-use Prim.Native.Nat.{◌-◌}
-use Rattle.day.proofs.main.Given as goal
-
-abbrev pub decreases-loop-n : goal.decreases-loop-n
-decreases-loop-n l = 65 - l.n

@@ -1,9 +1,0 @@
--- `models::rows::side_in` meets its contract. Assumes nothing.
-use borrow.Author.Tests.{eq-eqb, ne_eqb}
-use Rattle.rows.proofs.side_in.Goals as goal
-
-pub returns-then-v-eq0 : goal.returns-then-v-eq0
-returns-then-v-eq0 c = rw (eq-eqb _ _ c.if-v-eq0.true)
-
-pub returns-else-v-eq0 : goal.returns-else-v-eq0
-returns-else-v-eq0 c = rw (ne_eqb _ _ c.if-v-eq0.false)
