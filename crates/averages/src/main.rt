@@ -58,10 +58,7 @@ fn averages(rt: &impl Print, cases: &[(u64, u64, u64)]) {
 
 // The number of an answer: 0 where nothing is refused.
 fn number_of(answer: Result<(), Refusal>) -> u64 {
-    match answer {
-        Ok(()) => 0,
-        Err(refusal) => u64::from(refusal),
-    }
+    answer.err().map_or(0, u64::from)
 }
 
 fn tell_trade(rt: &impl Print, t: Trade) {

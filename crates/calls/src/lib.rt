@@ -1,6 +1,7 @@
 // The public calls that make or change a book, at any size. Each demands nothing of its caller: what isn't a whole book of the given size is refused
 // as not whole, and a refusal changes nothing. What may be asked of a book is in crate questions.
 // Storage is lent as numbers: records, level rows of bids and asks, places of the search; the small values stand beside it in the stored book.
+// The book, the statistics and the buffer for fills are lent apart, here and below: a cancel takes the book alone.
 #![tactic(auto)]
 
 ghost use Rattle.models.specs.Readings.{call_of};

@@ -45,7 +45,7 @@ pub fn best(levels: &[u64], n: usize, side: Side) -> Option<Price>
     Some(Price(levels[visit(side, n, n) * ROW]))
 }
 
-// The quantities of a queue together, if they don't exceed 2^64 - 1.
+// The quantities of a queue together, if they don't exceed 2^64 - 1. The walk stays a `while`: it goes on by the links and counts no index.
 fn total(records: &[u64], head: u64) -> Option<u64>
     requires { QueueIn records.now head }
     ensures { result ≡ capped (quantities records.now (queue_in records.now head)) }

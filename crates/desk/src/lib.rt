@@ -23,7 +23,7 @@ use stats::Statistics;
 use survey::{Outlook, Taker, survey};
 use whole::Size;
 
-// What the order would do, with nothing changed.
+// What the order would do, with nothing changed. An arm for each side, here and below: a function that gives a side's rows would say the same two cases.
 fn outlook(view: BookView<'_>, t: Taker) -> Outlook
     requires { Matchable view.book view.records.now view.bids.now view.asks.now }
     ensures { Foretells t view.entry.book view.entry.records.now view.entry.bids.now view.entry.asks.now result }
@@ -76,8 +76,7 @@ pub fn order(
     let crowded = is_crowded(view, t.side, at, size.prices);
     let room = FillMetadata::places(fills);
     checked(room, t, s, *statistics, at, full, crowded)?;
-    let event = carry(book, statistics, fills, t, s, at);
-    Ok(event)
+    Ok(carry(book, statistics, fills, t, s, at))
 }
 
 // The order that the search finds under the id leaves, if there is one.

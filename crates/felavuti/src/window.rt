@@ -1,4 +1,4 @@
-// What is at hand of the tape, which is read as its fields are wanted.
+// What is at hand of the tape, which is read as its fields are wanted, into a buffer with its places (std's buffered readers need a heap).
 ghost use Rattle.std.specs.Prelude.{◌≡◌, ◌+◌, ◌≤◌, ◌<◌};
 ghost use Rattle.felavuti.specs.Windows.{Refilled};
 

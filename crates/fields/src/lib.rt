@@ -28,7 +28,7 @@ pub struct Header {
 #[derive(Clone, Copy)]
 pub struct Stump;
 
-// The number in k bytes from a place on.
+// The number in k bytes from a place on; k is 1, 2 or 8, so that `from_be_bytes` would be three functions.
 pub fn number_at(tape: &[u8], at: usize, k: usize) -> u64
     requires { (at + k ≤ length tape.now) × (k ≤ 8) }
     ensures { result ≡ number k (drop at tape.now) }

@@ -25,6 +25,7 @@ pub struct OrderBook {
 }
 
 // A stored book: the small values with the storage that is lent to be changed, the records, the level rows of each side and the places of the search.
+// It has no invariant: a public call takes any slices and any numbers.
 #[derive(Drop)]
 pub struct StoredBook<'a> {
     pub book: OrderBook,
@@ -134,6 +135,7 @@ impl StoredBook<'_> {
     {
         let b = self.book;
         let resting = b.resting + 1;
+        // An arm for each side, here and in `discard`: each lends another field, and after a choice by a reference the check knows neither.
         match side {
             Side::Bid => {
                 let e = join(

@@ -13,7 +13,7 @@ use rows::Row;
 use side::visit;
 use survey::{Taker, reaches};
 
-// The last fill's price and quantity; both are 0 where there is none.
+// The last fill's price and quantity; both are 0 where there is none, as the rules have it.
 #[derive(Clone, Copy)]
 pub struct Last {
     pub price: Price,
@@ -73,11 +73,9 @@ pub fn carry_out(records: &mut [u64], levels: &[u64], n: usize, t: Taker, fills:
     if t.qty.0 == 0 {
         return p.last;
     }
-    let side = t.side;
-    let makers = side.opposite();
-    let mut k = n;
-    // Stay walks by hand, one within the other and the outer left by its label: document 01 names this form (docs/DECISIONS.md).
-    'prices: while 0 < k {
+    let makers = t.side.opposite();
+    // The walks by hand, one within the other and the outer left by its label, are a form that document 01 names (docs/DECISIONS.md).
+    'prices: for k in (1..=n).rev() {
         let at = visit(makers, n, k) * ROW;
         if !reaches(t, Price(levels[at])) {
             break 'prices;
@@ -91,7 +89,6 @@ pub fn carry_out(records: &mut [u64], levels: &[u64], n: usize, t: Taker, fills:
             }
             c = next;
         }
-        k -= 1;
     }
     p.last
 }

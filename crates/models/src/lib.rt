@@ -22,7 +22,7 @@ pub enum Side {
     Ask,
 }
 
-// The numbers of the sides where they pass as numbers: on tapes, to C and in a program's input.
+// The numbers of the sides where they pass as numbers, as document 02 gives them: on tapes, to C and in a program's input.
 const BID: u64 = 0;
 
 const ASK: u64 = 1;
@@ -134,7 +134,7 @@ pub struct BookDepth {
     pub bids: usize,
 }
 
-// Why a call is refused. Document 01 numbers the refusals; C and the programs' texts give that number.
+// Why a call is refused. Documents 01 and 02 number the refusals; C and the programs' texts give that number.
 #[derive(Clone, Copy, PartialEq, Eq)]
 pub enum Refusal {
     NotWhole,

@@ -1,4 +1,5 @@
-// What is decided of an order from its outlook: the lowest refusal that applies, and the event.
+// What is decided of an order from its outlook: the lowest refusal that applies, and the event. That no more is left than was wanted stands in three clauses:
+// an outlook by itself has no order to compare with.
 #![tactic(auto)]
 
 ghost use Rattle.std.specs.Prelude.{◌≡◌, ◌≤◌};

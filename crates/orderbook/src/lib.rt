@@ -1,7 +1,7 @@
 // The desk of the base: lobster's order book over storage for 1,024 resting orders and 128 prices a side, as public calls that demand nothing of the caller.
 // Each is the call of the same name in `calls` or `questions`, at this one size; a market and a limit order are `execute` of it, and the
-// lowest ask and the highest bid are `best` of a side. They stay functions of their own, a line each: they are lobster's, and README.md and docs/PROMISES.md
-// name them.
+// lowest ask and the highest bid are `best` of a side. They stay functions of their own, a line each: README.md and docs/PROMISES.md name them, as lobster
+// does most of them.
 // Storage is lent: RECORDS numbers for the orders, LEVELS for the prices of each side, PLACES for the search.
 #![tactic(auto)]
 

@@ -10,7 +10,7 @@ use Rattle.models.specs.declared.BookDepth.{BookDepth}
 use Rattle.models.specs.declared.OrderEvent.{OrderEvent}
 use Rattle.models.specs.declared.Price.{Price}
 use Rattle.models.specs.declared.Refusal.{Refusal}
-use Rattle.models.specs.Readings.{reading_of}
+use Rattle.models.specs.Readings.{Reading, number, value, reading_of}
 use Rattle.models.proofs.Readings.{event_same, refusal_same, same}
 use Rattle.stats.specs.declared.Statistics.{Statistics}
 use Rattle.ledger.specs.declared.OrderBook.{OrderBook}
@@ -81,3 +81,15 @@ pub opening_same : (b c : OrderBook) (a a' : Result Statistics Refusal) → open
 opening_same b c =
     let with_book : OrderBook → Statistics → OrderBook × Statistics = λ x st. (x, st) in
     reading_same (with_book b) (with_book c) (λ s t e. ap (λ (v : OrderBook × Statistics). v.1) e)
+
+-- the book that a reading has, or else d
+book_read : OrderBook → Reading (OrderBook × Statistics) → OrderBook
+book_read d (number n) = d
+book_read d (value v) = v.0
+
+-- and where a book is made, its small values are the same
+pub opened_same : (b c : OrderBook) (a a' : Result Statistics Refusal) → opening_of b a ≡ opening_of c a' → (st : Statistics) → a ≡ Ok st → b ≡ c
+unfolding book_read
+opened_same b c (Ok x) (Ok y) e st h = ap (book_read b) e
+opened_same b c (Ok x) (Err s) e st h = absurd cc
+opened_same b c (Err r) a' e st h = absurd cc

@@ -1,6 +1,2 @@
-// What the contracts promise together is mathematics: its definitions are in specs/, its theorems in proofs/. A crate needs a function, so here is one.
+// What the contracts promise together is mathematics: no code, only the definitions (specs/) and the theorems (proofs/).
 #![tactic(auto)]
-
-pub fn nothing() -> u64 {
-    0
-}

@@ -1,4 +1,4 @@
-// The tape that is punched: orders gather in a lent buffer.
+// The tape that is punched: orders gather in a buffer with its place (std's buffered writers need a heap).
 ghost use Rattle.std.specs.Prelude.{◌≡◌, ◌+◌, ◌≤◌, length, OnOk};
 ghost use Rattle.overlay.specs.Over.{Put};
 ghost use Rattle.tape.specs.Orders.{field_of};

@@ -1,4 +1,4 @@
-// The lines of a text, which is read as they are wanted.
+// The lines of a text, which is read as they are wanted, into a buffer with its places (std's buffered readers need a heap).
 ghost use Rattle.std.specs.Prelude.{◌≡◌, ◌⊎◌, ◌-◌, ◌<◌, ◌≤◌, true, OnOk};
 
 use crate::line::LONGEST_LINE;

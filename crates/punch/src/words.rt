@@ -17,6 +17,7 @@ pub fn side_of(word: Option<&[u8]>) -> Result<Side, Fault<'_>> {
     }
 }
 
+// Not by `parse`: a word may be no text, and one that is too large is told from one that is no number.
 pub fn number_of(word: Option<&[u8]>) -> Result<u64, Fault<'_>> {
     let word = word.ok_or(Fault::TooFew)?;
     let mut number: u64 = 0;

@@ -17,7 +17,7 @@ use models::{BookDepth, BookLevel, Id, Price, Refusal, Side};
 use rows::Row;
 use whole::{Size, known};
 
-// The best price of a side of a book that is known to be whole.
+// The best price of a side of a book that is known to be whole. An arm for each side: a function that gives a side's rows would say the same two cases.
 fn quote(view: BookView<'_>, side: Side) -> Option<Price>
     requires { Tidy (stock_in view) }
     ensures { quote_of result ≡ best_on (side_of side) (read_book (stock_in view.entry)) }

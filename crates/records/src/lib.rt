@@ -1,6 +1,7 @@
 // The records of a book: rows of five numbers in lent storage, read and written here and nowhere else.
 // A record is named by its code, its row + 1; code 0 is none.
-// Codes and columns stay numbers: they are what is stored, in storage that the C interface lends (felavuti_fresh and every call after it).
+// Codes and columns stay numbers: they are what is stored, in storage that the C interface lends (felavuti_fresh and every call after it). That a code has a
+// record stays a clause: it is about the code and the records lent, which no value holds together.
 #![tactic(auto)]
 
 ghost use Rattle.std.specs.Prelude.{◌≡◌, ℕ, ◌*◌, ◌<◌, ◌≤◌, length};

@@ -1,4 +1,5 @@
 // The search by id: a ring of lent places, walked on from an id's home. It keeps codes of records and reads their ids off the records.
+// A table of our own: C lends its places, there is no heap, and document 01 says how they are counted.
 #![tactic(auto)]
 
 ghost use Rattle.std.specs.Prelude.{◌≡◌, true, ◌+◌, ◌<◌, length, replicate};

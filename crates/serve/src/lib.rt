@@ -26,7 +26,7 @@ pub enum State {
     Ended,
 }
 
-// The state, and the place of the next field.
+// The state, and the place of the next field, which counts in every state: whoever refills what is at hand goes on from it.
 #[derive(Clone, Copy)]
 pub struct Turn {
     pub state: State,

@@ -65,7 +65,8 @@ pub fn ready(levels: &mut [u64], n: usize, k: usize, price: Price) -> usize
 }
 
 // What a door leaves: the side's number of rows, and the first free place.
-// A side's storage stays four arguments: ledger's StoredBook has them all, and a second struct of loans, made for each call, would say over again what is lent.
+// A side's storage stays four arguments here, and its rows with their number two in arena, survey, matching, depth and ranks: ledger's StoredBook has them all,
+// and a second struct of loans, made for each call, would say over again what is lent.
 #[derive(Clone, Copy)]
 pub struct Ends {
     pub rows: usize,

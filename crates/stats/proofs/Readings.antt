@@ -44,11 +44,16 @@ refused_alike (Err a) (Err b) e f = ap Err (refusal_same a b cc)
 refused_alike (Ok x) (Err b) e f = absurd cc
 refused_alike (Err a) (Ok y) e f = absurd cc
 
--- the statistics and a list of fills leave room for one outcome alone: by loan,
-pub follows_same : (st : Statistics) (l : List (rule.Fill (Unit {0}))) (r s : Result (Unit {0}) Refusal) (a b : Statistics)
+-- the statistics and a list of fills leave room for one outcome alone, in whichever form each is given:
+pub follows_same : {X Y : Type 0} (st : Statistics) (l : List (rule.Fill (Unit {0}))) (r : Result X Refusal) (s : Result Y Refusal) (a b : Statistics)
+    → Follows st l r a → Follows st l s b → (refusal_in r ≡ refusal_in s) × (a ≡ b)
+follows_same st l r s a b p q = (p.code ∙ sym q.code, statistics_same a b (p.statistics ∙ sym q.statistics))
+
+-- by loan,
+pub lent_same : (st : Statistics) (l : List (rule.Fill (Unit {0}))) (r s : Result (Unit {0}) Refusal) (a b : Statistics)
     → Follows st l r a → Follows st l s b → (r ≡ s) × (a ≡ b)
-follows_same st l r s a b p q =
-    (refused_alike r s (p.code ∙ sym q.code) (λ x y e f. refl), statistics_same a b (p.statistics ∙ sym q.statistics))
+lent_same st l r s a b p q =
+    (refused_alike r s (p.code ∙ sym q.code) (λ x y e f. refl), (follows_same st l r s a b p q).1)
 
 -- and by value
 pub recorded_same : (st : Statistics) (l : List (rule.Fill (Unit {0}))) (r s : Result Statistics Refusal) → Follows st l r (after st r) → Follows st l s (after st s) → r ≡ s

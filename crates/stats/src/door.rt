@@ -1,4 +1,4 @@
-// The statistics by loan: changed in place, giving what the value form gives.
+// The statistics by loan: changed in place, giving what the value form gives. Document 01 names this form (docs/DECISIONS.md).
 ghost use Rattle.stats.specs.Statistics.{fills_in, Follows};
 
 use crate::Statistics;

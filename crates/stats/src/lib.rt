@@ -28,7 +28,7 @@ pub struct Statistics {
     pub last: Option<Trade>,
 }
 
-// S and the quantity of some fills, each where it hasn't passed 2^64 - 1.
+// S (document 01's sum of price times quantity) and the quantity of some fills, each where it hasn't passed 2^64 - 1.
 #[derive(Clone, Copy)]
 pub struct Totals {
     pub worth: Option<u64>,
@@ -140,21 +140,13 @@ impl Statistics {
         requires { VolumeFits self qty.0 }
         ensures { statistics_of result ≡ rule.traded self.tracking qty.0 worth last_price.0 last_qty.0 (statistics_of self) }
     {
-        let tracking = self.tracking;
-        let volume = self.volume;
-        let before = volume.0;
-        let filled = qty.0;
-        if !tracking {
+        if !self.tracking || qty.0 == 0 {
             return self;
         }
-        if filled == 0 {
-            return self;
-        }
-        let t = trade_of(qty, worth, last_price, last_qty);
         Statistics {
             tracking: true,
-            volume: Quantity(before + filled),
-            last: Some(t),
+            volume: Quantity(self.volume.0 + qty.0),
+            last: Some(trade_of(qty, worth, last_price, last_qty)),
         }
     }
 

@@ -90,11 +90,9 @@ pub fn survey(records: &[u64], levels: &[u64], n: usize, t: Taker) -> Outlook
     if t.qty.0 == 0 {
         return s;
     }
-    let side = t.side;
-    let makers = side.opposite();
-    let mut k = n;
-    // Stay walks by hand, one within the other and the outer left by its label: document 01 names this form (docs/DECISIONS.md).
-    'prices: while 0 < k {
+    let makers = t.side.opposite();
+    // The walks by hand, one within the other and the outer left by its label, are a form that document 01 names (docs/DECISIONS.md).
+    'prices: for k in (1..=n).rev() {
         let at = visit(makers, n, k) * ROW;
         if !reaches(t, Price(levels[at])) {
             break 'prices;
@@ -107,7 +105,6 @@ pub fn survey(records: &[u64], levels: &[u64], n: usize, t: Taker) -> Outlook
             }
             c = load(records, NEXT, c);
         }
-        k -= 1;
     }
     s
 }

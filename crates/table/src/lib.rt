@@ -1,4 +1,5 @@
-// The search of a stored book by counting: which records it finds, and how many of its places are taken. On any slices.
+// The search of a stored book by counting: which records it finds, and how many of its places are taken. On any slices. That a ring is this search's stays a
+// clause, here and in ranks: a struct of both would be lent anew for each record.
 #![tactic(auto)]
 
 ghost use Rattle.std.specs.Prelude.{◌≡◌, ◌<◌, eqb, length};

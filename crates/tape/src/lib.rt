@@ -15,7 +15,7 @@ pub enum Kind {
     Cancel,
 }
 
-// Their tags, which document 01 gives.
+// Their tags, which document 02 gives.
 const MARKET: u64 = 1;
 
 const LIMIT: u64 = 2;
@@ -78,14 +78,9 @@ impl From<OrderType> for Kind {
 
     fn from(order: OrderType) -> Kind {
         match order {
-            OrderType::Market { id, side, qty } => Kind::Market,
-            OrderType::Limit {
-                id,
-                side,
-                qty,
-                price,
-            } => Kind::Limit,
-            OrderType::Cancel { id } => Kind::Cancel,
+            OrderType::Market { .. } => Kind::Market,
+            OrderType::Limit { .. } => Kind::Limit,
+            OrderType::Cancel { .. } => Kind::Cancel,
         }
     }
 }

@@ -8,6 +8,7 @@ use reply::count_of;
 use rows::Row;
 use text::{LINE, put_event, put_fill};
 
+// Sides and orders have no Display here: they are models'.
 fn word(side: Side) -> &'static str {
     match side {
         Side::Bid => "bid",

@@ -40,8 +40,8 @@ pub fn trade(book: &mut StoredBook<'_>, t: Taker, used: usize, fills: &mut [u64]
     ensures lent { Relent book.old book.new }
     ensures trades { Trades t (read_book (stock_of book.old)) fills.old (stock_of book.new) fills.new result }
 {
-    let side = t.side;
-    match side {
+    // An arm for each side: each lends another field, and after a choice by a reference the check knows neither.
+    match t.side {
         Side::Bid => {
             let asks = &mut *book.asks;
             let last = carry_out(book.records, asks, book.book.asks, t, fills);

@@ -22,7 +22,7 @@ returns-in_err-checked-clause-performs c =
 
 pub returns-clause-performs : goal.returns-clause-performs
 returns-clause-performs c =
-    order_done c.requires c.carry-event.ensures.lent c.args.t c.args.statistics.now c.args.fills.now
+    order_done c.requires c.carry.ensures.lent c.args.t c.args.statistics.now c.args.fills.now
     (order_none c.view-view.ensures c.requires c.args.t _ c.outlook-s.ensures c.args.statistics.now _ c.standing-at.ensures _ refl _
     c.is_crowded-crowded.ensures c.args.fills.now _ c.places-room.ensures _ c.checked.ensures c.in_ok-checked.was)
-    c.carry-event.ensures.fulfils
+    c.carry.ensures.fulfils
