@@ -6,7 +6,9 @@ mod cases; // cases.rt: S, quantity and the bits of their average
 
 ghost use Rattle.stats.specs.Statistics.{fills_in, Follows};
 
+use ledger::OrderBook;
 use models::{Price, Quantity, Refusal};
+use numbers::written;
 use stats::{Statistics, Trade, bits, door};
 
 // The fills of the trading day as rows: taker, maker, quantity, price, side and use.
@@ -72,6 +74,11 @@ fn tell_trade(rt: &impl Print, t: Trade) {
     );
 }
 
+// Whether two statistics are the same, as numbers: an average by its bits.
+fn same(a: Statistics, b: Statistics) -> bool {
+    written(OrderBook::default(), a) == written(OrderBook::default(), b)
+}
+
 // Fills are recorded by value and by loan: what came of it, and whether it is the same. What the loan left is handed on.
 fn record(
     rt: &impl Print,
@@ -93,7 +100,7 @@ fn record(
         },
         Some(t) => tell_trade(rt, t),
     }
-    let verdict = verdict(answer == lent_answer && after == lent_after);
+    let verdict = verdict(answer == lent_answer && same(after, lent_after));
     let _ = println!(rt; "; by loan {verdict}");
     lent_after
 }

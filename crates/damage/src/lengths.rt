@@ -102,7 +102,7 @@ pub fn withdraw(rt: &impl Print, whole: &OwnDesk, sizes: Sizes) {
     let answer = orderbook::cancel(&mut book, Id(3));
     desk.book = book.book;
     let _ = print!(rt; "{sizes}, cancel 3: ");
-    kept::answer(rt, answer, desk == *whole);
+    kept::answer(rt, answer, kept::same_desk(&desk, whole));
 }
 
 // A fresh book over slices of marks; for a refusal, whether they are as they were.
@@ -129,7 +129,7 @@ pub fn fresh(rt: &impl Print, sizes: Sizes) {
                 && is_unwritten(&bids)
                 && is_unwritten(&asks)
                 && is_unwritten(&search);
-            refused(rt, refusal, kept);
+            refused(rt, u64::from(refusal), kept);
         }
     }
 }

@@ -8,7 +8,7 @@ mod window; // window.rt: what is at hand of the tape
 ghost use Rattle.std.specs.Prelude.{◌≡◌};
 ghost use Rattle.rules.specs.Rules as rule;
 ghost use Rattle.ledger.specs.Stock.{stock_of};
-ghost use Rattle.whole.specs.Whole.{WholeStock};
+ghost use Rattle.serve.specs.Serve.{keeping, Ready};
 
 use fields::Output;
 use ledger::{OrderBook, StoredBook};
@@ -33,16 +33,16 @@ const NAME: usize = 4096;
 // More turns than any tape takes, so that the run ends whatever comes in.
 const MOST: u64 = 140737488355328;
 
-// The orders of a tape, one after another, on a whole book.
+// The orders of a tape, one after another, on a desk that is ready for them.
 fn run(
     rt: &HostRuntime,
     window: &mut Window<'_>,
     book: &mut StoredBook<'_>,
     statistics: &mut Statistics,
+    fills: &mut [u64],
 ) -> Result<(), Failed>
-    requires { WholeStock rule.hall (stock_of book.old) × (window.old.base ≡ 0) }
+    requires { Ready rule.hall (keeping (stock_of book.old) statistics.old fills.old) × (window.old.base ≡ 0) }
 {
-    let mut fills = [0u64; FILLS];
     let mut out = [0u8; OUT];
     for n in 0..MOST {
         window.refill(&rt.stderr())?;
@@ -58,7 +58,7 @@ fn run(
             SIZE,
             book,
             statistics,
-            &mut fills,
+            fills,
             &mut output,
             TEXT,
         );
@@ -74,6 +74,7 @@ fn run(
 }
 
 // A tape on a fresh desk.
+#[tactic(auto, using(crate::proofs::Beginning::made_ready))]
 fn carry_out(rt: &HostRuntime, source: Source<'_>) {
     let mut records = [0u64; RECORDS];
     let mut bids = [0u64; LEVELS];
@@ -88,7 +89,8 @@ fn carry_out(rt: &HostRuntime, source: Source<'_>) {
     };
     if let Ok(mut statistics) = orderbook::fresh(&mut book) {
         let mut window = Window::new(source);
-        let _ = run(rt, &mut window, &mut book, &mut statistics);
+        let mut fills = [0u64; FILLS];
+        let _ = run(rt, &mut window, &mut book, &mut statistics, &mut fills);
     }
 }
 

@@ -4,6 +4,7 @@
 #![tactic(auto)]
 
 use models::{OrderEvent, OrderType, Refusal};
+use numbers::written;
 use script::{FILLS, MARK, OwnDesk, SHOWN};
 
 // Whether a buffer holds nothing but marks.
@@ -11,17 +12,27 @@ pub fn is_unwritten(buffer: &[u64]) -> bool {
     buffer.iter().all(|n| *n == MARK)
 }
 
+// Whether two desks are the same, every number of them: the small values as the exports write them, an average by its bits (`==` takes no NaN for itself,
+// and 0 for -0).
+pub fn same_desk(a: &OwnDesk, b: &OwnDesk) -> bool {
+    written(a.book, a.statistics) == written(b.book, b.statistics)
+        && a.records == b.records
+        && a.bids == b.bids
+        && a.asks == b.asks
+        && a.search == b.search
+}
+
 // A refusal by its number, and whether it changed anything.
-pub fn refused(rt: &impl Print, refusal: Refusal, kept: bool) {
+pub fn refused(rt: &impl Print, number: u64, kept: bool) {
     let words = if kept { "nothing changed" } else { "CHANGED" };
-    let _ = println!(rt; "Refused {}, {words}", u64::from(refusal));
+    let _ = println!(rt; "Refused {number}, {words}");
 }
 
 // An event; or a refusal.
 pub fn answer(rt: &impl Print, answer: Result<OrderEvent, Refusal>, kept: bool) {
     match answer {
         Ok(event) => tell::event(rt, event),
-        Err(refusal) => refused(rt, refusal, kept),
+        Err(refusal) => refused(rt, u64::from(refusal), kept),
     }
 }
 
@@ -31,7 +42,8 @@ pub fn order(rt: &impl Print, desk: &mut OwnDesk, room: usize, order: OrderType)
     let before = *desk;
     let mut fills = [MARK; FILLS];
     let told = desk.execute(&mut fills[..room.min(FILLS)], order);
-    answer(rt, told, *desk == before && is_unwritten(&fills));
+    let kept = same_desk(desk, &before) && is_unwritten(&fills);
+    answer(rt, told, kept);
 }
 
 // Depth with a buffer of `room` numbers; for a refusal, whether that is as it was.
@@ -42,6 +54,6 @@ pub fn depth(rt: &impl Print, desk: &OwnDesk, room: usize) {
         Ok(depth) => {
             let _ = println!(rt; "asks {}, bids {}", depth.asks, depth.bids);
         }
-        Err(refusal) => refused(rt, refusal, is_unwritten(&levels)),
+        Err(refusal) => refused(rt, u64::from(refusal), is_unwritten(&levels)),
     }
 }

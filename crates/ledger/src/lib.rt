@@ -6,7 +6,7 @@ ghost use Rattle.std.specs.Prelude.{◌≡◌, [], ◌*◌, ◌<◌, ◌≤◌, 
 ghost use Rattle.rules.specs.Rules.{stays, only};
 ghost use Rattle.models.specs.Readings.{side_of};
 ghost use Rattle.records.specs.Rows.{RecordAt, record_count};
-ghost use Rattle.ledger.specs.Stock.{stock_of, stock_in, Relent};
+ghost use Rattle.ledger.specs.Stock.{stock, stock_of, stock_in, Relent};
 ghost use Rattle.ledger.specs.Desk.{Tidy, read_book, LeavesAs};
 ghost use Rattle.ledger.specs.Doors.{CanJoin, Joins, CanQuit, Quits, rest_in, RoomOn, RestsOn, dropped, ApartIn, SideTold, Fronted, front_of};
 
@@ -81,6 +81,22 @@ pub fn quit(
 {
     search::forget(search, records, c);
     side::discard(records, levels, n, free, c)
+}
+
+// A fresh book, whatever the storage held. No row of a side has to change.
+pub fn fresh(records: &mut [u64], bids: &[u64], asks: &[u64], search: &mut [u64]) -> OrderBook
+    requires { (length records.old ≡ record_count records.old * 5) × (record_count records.old < length search.old) }
+    ensures { LeavesAs (record { bids = []; asks = [] })
+        (stock result records.new bids.entry.now asks.now search.new) }
+{
+    let free = arena::free_all(records);
+    search::clear(search);
+    OrderBook {
+        resting: 0,
+        free,
+        bids: 0,
+        asks: 0,
+    }
 }
 
 impl BookView<'_> {
@@ -229,13 +245,8 @@ impl StoredBook<'_> {
         ensures sides { (self.new.bids.now ≡ self.old.bids.now) × (self.new.asks.now ≡ self.old.asks.now) }
         ensures empty { LeavesAs (record { bids = []; asks = [] }) (stock_of self.new) }
     {
-        let free = arena::free_all(self.records);
-        search::clear(self.search);
-        self.book = OrderBook {
-            resting: 0,
-            free,
-            bids: 0,
-            asks: 0,
-        };
+        let bids = &mut *self.bids;
+        let asks = &mut *self.asks;
+        self.book = fresh(self.records, bids, asks, self.search);
     }
 }

@@ -5,7 +5,7 @@
 ghost use Rattle.std.specs.Prelude.{◌≡◌, ℕ, List};
 ghost use Rattle.numbers.specs.Numbers.{book_in, trade_in, last_in, statistics_in, numbers_of};
 ghost use Rattle.numbers.specs.Numbers.{event_as_numbers, quote_as_numbers, depth_as_numbers, look_as_numbers};
-ghost use Rattle.numbers.specs.Reports.{Told, Reported, order_in, OrderOf};
+ghost use Rattle.numbers.specs.Reports.{Told, Reported, order_in, side_in, OrderOf};
 
 use depth::Lookup;
 use ledger::OrderBook;
@@ -213,6 +213,13 @@ pub fn reported(
         *desk = written(book, statistics);
     }
     told(done, answer)
+}
+
+// The side of a number, whatever it is: all but 0 are the ask's here. `order` refuses those above 1.
+pub fn side_of(side: u64) -> Side
+    ensures { result ≡ side_in side }
+{
+    if side == 0 { Side::Bid } else { Side::Ask }
 }
 
 // An order from its numbers: a limit order where it has a price, else a market order.

@@ -194,8 +194,8 @@ unfolding opening_in
 opened_once {d} {d₁ = d₁} {rs₁ = rs₁} {bd₁ = bd₁} {ak₁ = ak₁} {se₁ = se₁} {d₂ = d₂} {rs₂ = rs₂} {bd₂ = bd₂} {ak₂ = ak₂} {se₂ = se₂} {n₁ = n₁} {n₂ = n₂} x y =
     go (makes_once x.makes y.makes)
   where
-    go : AgreeFresh x.answer y.answer (stock x.book rs₁ bd₁ ak₁ se₁) (stock y.book rs₂ bd₂ ak₂ se₂) → (n₁ ≡ n₂) × SameNumbers d₁ rs₁ bd₁ ak₁ se₁ d₂ rs₂ bd₂ ak₂ se₂
-    go (neither p e q r s t) =
+    go : AgreeFresh (book_in d) (book_in d) x.answer y.answer (stock x.book rs₁ bd₁ ak₁ se₁) (stock y.book rs₂ bd₂ ak₂ se₂) → (n₁ ≡ n₂) × SameNumbers d₁ rs₁ bd₁ ak₁ se₁ d₂ rs₂ bd₂ ak₂ se₂
+    go (neither p e _ _ q r s t) =
         let o : opening_of y.book y.answer ≡ number 1 = refused_any x.book y.book y.answer (ap (opening_of x.book) (sym e) ∙ p) in
         let g = both_of (opens_is x.reported ∙ ap (opening_in d) p) (opens_is y.reported ∙ ap (opening_in d) o) in
         (g.0, record { desk = λ i. desk_at (g.1 i) (q i) (r i) (s i) (t i); numbers = ap but_free g.1 })

@@ -47,6 +47,6 @@ pub fn put_answer(output: &mut Output<'_>, answer: Result<OrderEvent, Refusal>, 
             put_event(output, event);
             put_fills(output, fills, count_of(event));
         }
-        Err(refusal) => put_refused(output, refusal),
+        Err(refusal) => put_refused(output, u64::from(refusal)),
     }
 }

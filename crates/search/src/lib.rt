@@ -42,7 +42,8 @@ pub struct Ring {
 impl Ring {
     pub fn new(places: usize) -> Ring
         requires { 0 < places }
-        ensures { result.places ≡ places }
+        ensures places { result.places ≡ places }
+        ensures masked { Masks places result.mask }
     {
         Ring {
             places,

@@ -60,7 +60,7 @@ pub fn step(
             next: at,
         },
         Err(fault) => {
-            put_stopped(output, fault.refusal, base + fault.place as u64);
+            put_stopped(output, u64::from(fault.refusal), base + fault.place as u64);
             Turn {
                 state: State::Stopped,
                 next: at,

@@ -26,28 +26,28 @@ row_first (suc k) (suc i) xs ds h l =
     let e : 3 + i * 3 ≡ suc i * 3 = omega arith in
     row_first k i (drop 3 xs) ds (omega arith) (omega (arith, length-drop 3 xs)) ∙ get_or-drop 3 xs (i * 3) 0 ∙ ap (λ (j : ℕ). get_or xs j 0) e
 
-module _ (lv : List ℕ) (n p : ℕ) (rows : List (List ℕ)) (s : Rising lv n) (e : rows ≡ first_chunks 3 (length (take (n * 3) lv) / 3) (take (n * 3) lv)) (l : length rows ≡ length (take (n * 3) lv) / 3) where
-  row_count : length (take (n * 3) lv) / 3 ≡ n
-  row_count = omega (arith, s.room, length-take-le (n * 3) lv)
+module _ (lv : List ℕ) (n p : ℕ) (all : List (List ℕ)) (s : Rising lv n) (e : all ≡ first_chunks 3 (length lv / 3) lv) (l : length all ≡ length lv / 3) where
+  row_count : length (take n all) ≡ n
+  row_count = length-take-le n all (omega (arith, s.room, l))
 
-  price_at : (i : ℕ) (ds : List ℕ) → i < n → get_or (get_or rows i ds) 0 0 ≡ price_of lv i
-  price_at i ds h =
-      rw (e, row_count) (row_first n i (take (n * 3) lv) ds h (omega (arith, s.room, length-take-le (n * 3) lv)) ∙ get_or-take (n * 3) lv (i * 3) 0 (omega arith))
+  price_at : (i : ℕ) (ds : List ℕ) → i < n → get_or (get_or (take n all) i ds) 0 0 ≡ price_of lv i
+  price_at i ds h = ap (λ (y : List ℕ). get_or y 0 0) (get_or-take n all i ds h) ∙ rw e (row_first (length lv / 3) i lv ds (omega (arith, s.room)) (omega arith))
 
   rise : (i j : ℕ) → i ≤ j → j < n → price_of lv i ≤ price_of lv j
   rise i j h g = ⊎_elim (λ q. omega (arith, s.rise i j q g)) (λ q. let w : i ≡ j = omega arith in rw w (omega arith)) (lt? i j)
 
-  rows_rise : IsNonDecreasingBy (λ (y : List ℕ). get_or y 0 0) rows
+  rows_rise : IsNonDecreasingBy (λ (y : List ℕ). get_or y 0 0) (take n all)
   rows_rise i j ds h g =
-      let b : j < n = omega (arith, l, row_count) in
+      let b : j < n = omega (arith, row_count) in
       rw (price_at i ds (omega arith), price_at j ds b) (rise i j h b)
 
-  pub rows_parted : IsPartitionedBy (λ (y : List ℕ). ltb (get_or y 0 0) p) rows
-  rows_parted = IsPartitionedBy-ltb (λ (y : List ℕ). get_or y 0 0) rows p rows_rise
+  pub rows_parted : IsPartitionedBy (λ (y : List ℕ). ltb (get_or y 0 0) p) (take n all)
+  rows_parted = IsPartitionedBy-ltb (λ (y : List ℕ). get_or y 0 0) (take n all) p rows_rise
 
-  pub bracket_at : (r : ℕ) → r ≤ length rows → IsPartitionPoint (λ (y : List ℕ). ltb (get_or y 0 0) p ≡ true) (λ (y : List ℕ). ltb (get_or y 0 0) p ≡ false) rows r → Bracket lv n p r r
+  pub bracket_at : (r : ℕ) → r ≤ length (take n all)
+      → IsPartitionPoint (λ (y : List ℕ). ltb (get_or y 0 0) p ≡ true) (λ (y : List ℕ). ltb (get_or y 0 0) p ≡ false) (take n all) r → Bracket lv n p r r
   bracket_at r h t =
-      let k : length rows ≡ n = l ∙ row_count in
+      let k : length (take n all) ≡ n = row_count in
       record {
         ordered = omega arith;
         within = omega arith;

@@ -48,8 +48,8 @@ pub fn find_row(levels: &[u64], n: usize, price: Price) -> usize
     requires { Rising levels.now n }
     ensures { Bracket levels.now n price.0 result result }
 {
-    let (rows, _) = levels[..n * ROW].as_chunks::<ROW>();
-    rows.partition_point(|row| row[0] < price.0)
+    let (rows, _) = levels.as_chunks::<ROW>();
+    rows[..n].partition_point(|row| row[0] < price.0)
 }
 
 // A row of `price` at k, where the search for that price ended; the number of rows then.
@@ -104,11 +104,13 @@ pub fn discard(records: &mut [u64], levels: &mut [u64], n: usize, free: u64, c: 
     let k = find_row(levels, n, price);
     unlink(records, levels, k, c);
     give_back(records, free, c);
-    let rows = if levels[k * ROW + HEAD] == 0 {
+    if levels[k * ROW + HEAD] == 0 {
         shut_row(levels, n, k);
-        n - 1
+        Ends {
+            rows: n - 1,
+            free: c,
+        }
     } else {
-        n
-    };
-    Ends { rows, free: c }
+        Ends { rows: n, free: c }
+    }
 }

@@ -5,11 +5,11 @@
 ghost use Rattle.std.specs.Prelude.{◌≡◌, ◌++◌, ◌+◌, ◌*◌, ◌≤◌, length};
 ghost use Rattle.overlay.specs.Over.{Put};
 ghost use Rattle.fields.specs.Output.{Lent};
-ghost use Rattle.models.specs.Readings.{event_of, fill_of, refusal_number};
+ghost use Rattle.models.specs.Readings.{event_of, fill_of};
 ghost use Rattle.text.specs.Text.{spaced, numbered, event_line, used_up, fill_line, refused_line, stopped_line};
 
 use fields::Output;
-use models::{FillMetadata, OrderEvent, Refusal};
+use models::{FillMetadata, OrderEvent};
 
 // No line is longer.
 pub const LINE: usize = 79;
@@ -91,21 +91,21 @@ pub fn put_fill(output: &mut Output<'_>, fill: FillMetadata)
     }
 }
 
-// The line of an order that the desk refuses.
-pub fn put_refused(output: &mut Output<'_>, refusal: Refusal)
+// The line of an order that the desk refuses with this number.
+pub fn put_refused(output: &mut Output<'_>, number: u64)
     requires { output.old.at + 79 ≤ length output.old.bytes.now }
     ensures lent { Lent output.old output.new }
-    ensures put { Put output.old.bytes.now output.old.at (refused_line (refusal_number refusal)) output.new.bytes.now output.new.at }
+    ensures put { Put output.old.bytes.now output.old.at (refused_line number) output.new.bytes.now output.new.at }
 {
-    put_line(output, b"Refused", &[u64::from(refusal)], b"\n");
+    put_line(output, b"Refused", &[number], b"\n");
 }
 
-// The line of a bad field.
-pub fn put_stopped(output: &mut Output<'_>, refusal: Refusal, offset: u64)
+// The line of a bad field, with the number of its refusal.
+pub fn put_stopped(output: &mut Output<'_>, number: u64, offset: u64)
     requires { output.old.at + 79 ≤ length output.old.bytes.now }
     ensures lent { Lent output.old output.new }
-    ensures put { Put output.old.bytes.now output.old.at (stopped_line (refusal_number refusal) offset) output.new.bytes.now output.new.at }
+    ensures put { Put output.old.bytes.now output.old.at (stopped_line number offset) output.new.bytes.now output.new.at }
 {
-    put_line(output, b"Refused", &[u64::from(refusal)], b" at");
+    put_line(output, b"Refused", &[number], b" at");
     put_line(output, b"", &[offset], b"\n");
 }

@@ -72,6 +72,12 @@ module _ {z : Size} {b : OrderBook} {rs bd ak se : List ℕ} (w : WholeStorage z
         omega (arith, times_append (entry_for se rs x) bc ac);
   }
 
+  -- what the search finds under an id rests, and has that id
+  pub whole_found : (x : ℕ) → entry_for se rs x ≢ 0 → (1 ≤ times (entry_for se rs x) (resting_in b rs bd ak)) × (field rs 0 (entry_for se rs x) ≡ x)
+  whole_found x n =
+      let h = whole_desk.held x n in
+      (omega (arith, times_append (entry_for se rs x) bc ac), (held se rs x (omega (arith, w.lengths.search, w.lengths.some)) n).1)
+
   -- ## Down: the rules' whole book
 
   -- no bid at or above an ask

@@ -57,6 +57,8 @@ fn is_limited(size: Size, book: OrderBook) -> bool
 
 // Whether the chain from `free` has `count` records, each with nothing. Places that were never used follow each other downwards: there the next one is
 // looked at without waiting for the record to name it.
+// It stays a function of its own in what is compiled: within `is_whole` its counter would go through memory, which took half as long again.
+#[inline(never)]
 fn is_spare(records: &[u64], free: u64, count: usize) -> bool
     ensures { result ≡ idles records.now count free }
 {

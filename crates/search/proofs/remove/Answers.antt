@@ -9,7 +9,7 @@ use Rattle.search.proofs.remove.Goals as goal
 use Rattle.search.proofs.remove.Goals.{then-before-far, else-before-far}
 
 pub loop-init : goal.loop-init
-loop-init c = pulling_start _ _ _ _ _ c.requires.pointing c.requires.place_in_bounds (rw c.new-ring.ensures at c.after-j.ensures) (omega arith)
+loop-init c = pulling_start _ _ _ _ _ c.requires.pointing c.requires.place_in_bounds (rw c.new-ring.ensures.places at c.after-j.ensures) (omega arith)
 
 pub returns-then-e-eq0 : goal.returns-then-e-eq0
 returns-then-e-eq0 c = pulling_done c.loop.invariant c.if-e-eq0.true
@@ -21,7 +21,7 @@ told m k h x y d e i p q = (p ∙ ap (λ z. dist m z x) i, q ∙ ap (λ z. dist 
 pub loop-preserved : goal.loop-preserved
 loop-preserved c =
     let m = length c.args.table.now in
-    let r = c.new-ring.ensures in
+    let r = c.new-ring.ensures.places in
     let h = rw r at c.home-h.ensures in
     let n = rw r at c.after-j-in-loop.ensures in
     let k = told m _ _ c.loop.hole c.loop.j _ _ (h ∙ ap (home m) c.load.ensures) (rw r at c.steps-before.ensures) (rw r at c.steps-far.ensures) in

@@ -18,7 +18,7 @@ pub returns-in-Err-clause-step : goal.returns-in-Err-clause-step
 returns-in-Err-clause-step c =
     let a = c.args in
     let f = c.in-Err.fault in
-    record { said = _; stepped = refused_stepped _ a.tape.now _ a.at _ (refusal_number f.refusal) f.place (sym c.in-Err.ensures); put = c.put_stopped.ensures.put }
+    record { said = _; stepped = refused_stepped _ a.tape.now _ a.at _ (refusal_number f.refusal) f.place (sym c.in-Err.ensures); put = rw c.from.ensures at c.put_stopped.ensures.put }
 
 pub returns-in-Ok-Some-clause-step : goal.returns-in-Ok-Some-clause-step
 returns-in-Ok-Some-clause-step c =

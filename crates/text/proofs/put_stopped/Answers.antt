@@ -1,6 +1,6 @@
 -- `text::put_stopped` meets its contract. Assumes nothing.
 use Prim.Native.Nat.{ℕ}
-use mathlib.Core.Path.{◌≡◌, ap, subst, ◌∙◌}
+use mathlib.Core.Path.{◌≡◌, ap, subst}
 use mathlib.Core.List.{List, [], ◌∷◌, ◌++◌, append_assoc}
 use Rattle.overlay.specs.Over.{Put}
 use Rattle.overlay.proofs.Over.{put_more}
@@ -14,6 +14,5 @@ pub returns-clause-put : goal.returns-clause-put
 returns-clause-put c =
     let o = c.args.output.now in
     let n = c.put_line-2.new.output in
-    subst (λ (l : List ℕ). Put o.bytes.now o.at l n.bytes.now n.at)
-    (both c.from.result c.args.offset ∙ ap (λ (x : ℕ). stopped_line x c.args.offset) c.from.ensures)
+    subst (λ (l : List ℕ). Put o.bytes.now o.at l n.bytes.now n.at) (both c.args.number c.args.offset)
     (put_more c.put_line.ensures.put c.put_line-2.ensures.put)
