@@ -74,7 +74,6 @@ fn run(
 }
 
 // A tape on a fresh desk.
-#[tactic(auto, using(crate::proofs::Beginning::made_ready))]
 fn carry_out(rt: &HostRuntime, source: Source<'_>) {
     let mut records = [0u64; RECORDS];
     let mut bids = [0u64; LEVELS];

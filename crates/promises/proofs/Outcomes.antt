@@ -52,7 +52,7 @@ finds_once {a = a} {b = b} (ask.broken w p) (ask.broken w' p') = got_same a b (p
 finds_once (ask.broken w p) (ask.found w' o r' p') = absurd (w w')
 finds_once {a = a} {b = b} (ask.found w o r p) y = got_same a b (finds {a = a} w (ask.found w o r p) ∙ sym (finds w y))
 
--- a fresh book: what becomes of it doesn't rest on the small values lent with the lists
+-- a fresh book, whatever small values are lent with the lists
 pub makes_once : {z : rule.Size} {b₁ b₂ : OrderBook} {rs bd ak se : List ℕ} {k₁ k₂ : Stock} {a b : Result Statistics Refusal}
     → Makes z (stock b₁ rs bd ak se) a k₁ → Makes z (stock b₂ rs bd ak se) b k₂ → AgreeFresh b₁ b₂ a b k₁ k₂
 makes_once {k₁ = k₁} {k₂ = k₂} {a = a} {b = b} (call.short l p q) (call.short l' p' q') =
