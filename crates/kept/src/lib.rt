@@ -3,6 +3,9 @@
 // rest is lent by shared reference, which can't change).
 #![tactic(auto)]
 
+ghost use Rattle.std.specs.Prelude.{Decides};
+ghost use Rattle.kept.specs.Unchanged.{Unchanged};
+
 use models::{OrderEvent, OrderType, Refusal};
 use numbers::written;
 use script::{FILLS, MARK, OwnDesk, SHOWN};
@@ -12,9 +15,10 @@ pub fn is_unwritten(buffer: &[u64]) -> bool {
     buffer.iter().all(|n| *n == MARK)
 }
 
-// Whether two desks are the same, every number of them: the small values as the exports write them, an average by its bits (`==` takes no NaN for itself,
-// and 0 for -0).
-pub fn same_desk(a: &OwnDesk, b: &OwnDesk) -> bool {
+// Whether two desks are the same. An average counts by its bits: `==` would take no NaN for itself, and 0 for -0.
+pub fn same_desk(a: &OwnDesk, b: &OwnDesk) -> bool
+    ensures { Decides result (Unchanged a.now b.now) }
+{
     written(a.book, a.statistics) == written(b.book, b.statistics)
         && a.records == b.records
         && a.bids == b.bids
